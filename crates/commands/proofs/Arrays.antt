@@ -1,0 +1,145 @@
+-- Arrays of four handles or entries: their numbers, and tests and sums over the first of them, one further. Assumes nothing.
+use Prim.Native.Nat.{ℕ, zero, suc, _+_, _≤_, _<_}
+use native.Mathlib.Numerals.{add-one}
+use native.Mathlib.Omega.{arith}
+use mathlib.Core.Path.{_≡_, refl, sym, ap, _∙_}
+use mathlib.Core.Bool.{Bool, true, false}
+use mathlib.Core.List.{List, [], _∷_, _++_, map}
+use lib.ListN.{length, getD, set, take, drop, replicate}
+use lib.Seq.{drop-cons}
+use borrow.Author.Tests.{eq-eqb, ne-eqb}
+use Rattle.rules.specs.Choice.{_and_, every, sumOf, isZero}
+use Rattle.rules.specs.declared.Entry.{Entry}
+use Rattle.rules.specs.declared.Handle.{Handle}
+use Rattle.rules.proofs.Logic.{and-left, and-right, both, never, every-at, mem-take}
+use Rattle.terms.specs.Elements.{numbers}
+use Rattle.commands.specs.Beside.{handleNumbers}
+
+-- ---- number i of an array
+abbrev pub handleAt : List Handle → ℕ → ℕ
+handleAt hs i = getD hs i (record { 0 = 0 }) .0
+
+abbrev pub entryAt : List Entry → ℕ → ℕ
+entryAt es i = getD es i (record { 0 = 0 }) .0
+
+pub handles-length : (hs : List Handle) → length (handleNumbers hs) ≡ length hs
+handles-length [] = refl
+handles-length (h ∷ hs) = ap suc (handles-length hs)
+
+pub entries-length : (es : List Entry) → length (numbers es) ≡ length es
+entries-length [] = refl
+entries-length (e ∷ es) = ap suc (entries-length es)
+
+pub handle-at : (hs : List Handle) (i : ℕ) → getD (handleNumbers hs) i 0 ≡ handleAt hs i
+handle-at [] i = refl
+handle-at (h ∷ hs) zero = refl
+handle-at (h ∷ hs) (suc i) = handle-at hs i
+
+pub entry-at : (es : List Entry) (i : ℕ) → getD (numbers es) i 0 ≡ entryAt es i
+entry-at [] i = refl
+entry-at (e ∷ es) zero = refl
+entry-at (e ∷ es) (suc i) = entry-at es i
+
+pub entries-set : (es : List Entry) (i : ℕ) (e : Entry) → numbers (set es i e) ≡ set (numbers es) i (e .0)
+entries-set [] i e = refl
+entries-set (x ∷ es) zero e = refl
+entries-set (x ∷ es) (suc i) e = ap (λ (xs : List ℕ). x .0 ∷ xs) (entries-set es i e)
+
+-- ---- over the first i + 1 numbers
+pub every-none : (f : ℕ → Bool) (xs : List ℕ) → every f (take 0 xs) ≡ true
+unfolding every
+every-none f xs = refl
+
+every-suc : (f : ℕ → Bool) (i : ℕ) (xs : List ℕ) → every f (take i xs) ≡ true → f (getD xs i 0) ≡ true → every f (take (suc i) xs) ≡ true
+unfolding every
+every-suc f i [] p q = refl
+every-suc f zero (x ∷ xs) p q = both q refl
+every-suc f (suc i) (x ∷ xs) p q = both (and-left (f x) _ p) (every-suc f i xs (and-right (f x) _ p) q)
+
+pub every-next : (f : ℕ → Bool) (i : ℕ) (xs : List ℕ) → every f (take i xs) ≡ true → f (getD xs i 0) ≡ true → every f (take (i + 1) xs) ≡ true
+every-next f i xs p q = rw add-one (every-suc f i xs p q)
+
+-- one of the first n fails
+pub every-fails : (f : ℕ → Bool) (n i : ℕ) (xs : List ℕ) → i < n → i < length xs → f (getD xs i 0) ≡ false → every f (take n xs) ≡ false
+every-fails f n i xs a b q = go (every f (take n xs)) refl
+  where
+    go : (x : Bool) → every f (take n xs) ≡ x → x ≡ false
+    go true h = never (every-at f (take n xs) h (getD xs i 0) (mem-take n xs i a b)) q
+    go false h = refl
+
+pub sum-none : (f : ℕ → ℕ) (xs : List ℕ) → sumOf f (take 0 xs) ≡ 0
+unfolding sumOf
+sum-none f xs = refl
+
+sum-suc : (f : ℕ → ℕ) (i : ℕ) (xs : List ℕ) → i < length xs → sumOf f (take (suc i) xs) ≡ sumOf f (take i xs) + f (getD xs i 0)
+unfolding sumOf
+sum-suc f i [] h = absurd (omega arith)
+sum-suc f zero (x ∷ xs) h = omega arith
+sum-suc f (suc i) (x ∷ xs) h = omega (arith, sum-suc f i xs (omega arith))
+
+pub sum-next : (f : ℕ → ℕ) (i : ℕ) (xs : List ℕ) → i < length xs → sumOf f (take (i + 1) xs) ≡ sumOf f (take i xs) + f (getD xs i 0)
+sum-next f i xs h = rw add-one (sum-suc f i xs h)
+
+-- ---- zeros from number i on
+pub zeros-next : (i : ℕ) (xs : List ℕ) → i < length xs → getD xs i 0 ≡ 0 → every isZero (drop i xs) ≡ every isZero (drop (i + 1) xs)
+unfolding every isZero
+zeros-next i xs h q = rw (drop-cons xs i 0 h, eq-eqb (getD xs i 0) 0 q, add-one i) refl
+
+pub zeros-fail : (i : ℕ) (xs : List ℕ) → i < length xs → (getD xs i 0 ≡ 0 → ⊥) → every isZero (drop i xs) ≡ false
+unfolding every isZero
+zeros-fail i xs h q = rw (drop-cons xs i 0 h, ne-eqb (getD xs i 0) 0 q) refl
+
+pub zeros-end : (i : ℕ) (xs : List ℕ) → length xs ≤ i → every isZero (drop i xs) ≡ true
+unfolding every
+zeros-end zero [] h = refl
+zeros-end (suc i) [] h = refl
+zeros-end zero (x ∷ xs) h = absurd (omega arith)
+zeros-end (suc i) (x ∷ xs) h = zeros-end i xs (omega arith)
+
+-- ---- the first i numbers through f, and zeros after them
+abbrev pub through : (ℕ → ℕ) → ℕ → List ℕ → List ℕ
+through f i [] = []
+through f zero (x ∷ xs) = 0 ∷ through f zero xs
+through f (suc i) (x ∷ xs) = f x ∷ through f i xs
+
+through-suc : (f : ℕ → ℕ) (i : ℕ) (xs : List ℕ) → set (through f i xs) i (f (getD xs i 0)) ≡ through f (suc i) xs
+through-suc f i [] = refl
+through-suc f zero (x ∷ xs) = refl
+through-suc f (suc i) (x ∷ xs) = ap (λ (ys : List ℕ). f x ∷ ys) (through-suc f i xs)
+
+pub through-next : (f : ℕ → ℕ) (i : ℕ) (xs : List ℕ) → set (through f i xs) i (f (getD xs i 0)) ≡ through f (i + 1) xs
+through-next f i xs = rw add-one (through-suc f i xs)
+
+module _ (f : ℕ → ℕ) where
+  pub through-none : (xs : List ℕ) → length xs ≡ 4 → through f 0 xs ≡ 0 ∷ 0 ∷ 0 ∷ 0 ∷ []
+  through-none [] h = absurd (omega arith)
+  through-none (a ∷ []) h = absurd (omega arith)
+  through-none (a ∷ b ∷ []) h = absurd (omega arith)
+  through-none (a ∷ b ∷ c ∷ []) h = absurd (omega arith)
+  through-none (a ∷ b ∷ c ∷ d ∷ []) h = refl
+  through-none (a ∷ b ∷ c ∷ d ∷ e ∷ xs) h = absurd (omega arith)
+
+  -- all four with the zeros, and the first n of them
+  pub through-all : (n : ℕ) (xs : List ℕ) → n ≤ 4 → length xs ≡ 4
+      → (through f n xs ≡ take 4 (map f (take n xs) ++ replicate 4 0)) × (take n (through f n xs) ≡ map f (take n xs))
+  through-all n [] l h = absurd (omega arith)
+  through-all n (a ∷ []) l h = absurd (omega arith)
+  through-all n (a ∷ b ∷ []) l h = absurd (omega arith)
+  through-all n (a ∷ b ∷ c ∷ []) l h = absurd (omega arith)
+  through-all zero (a ∷ b ∷ c ∷ d ∷ []) l h = (refl, refl)
+  through-all (suc zero) (a ∷ b ∷ c ∷ d ∷ []) l h = (refl, refl)
+  through-all (suc (suc zero)) (a ∷ b ∷ c ∷ d ∷ []) l h = (refl, refl)
+  through-all (suc (suc (suc zero))) (a ∷ b ∷ c ∷ d ∷ []) l h = (refl, refl)
+  through-all (suc (suc (suc (suc zero)))) (a ∷ b ∷ c ∷ d ∷ []) l h = (refl, refl)
+  through-all (suc (suc (suc (suc (suc n))))) (a ∷ b ∷ c ∷ d ∷ []) l h = absurd (omega arith)
+  through-all n (a ∷ b ∷ c ∷ d ∷ e ∷ xs) l h = absurd (omega arith)
+
+-- what stands for it, where the first n of the four are read again
+pub padded-take : (f : ℕ → ℕ) (n : ℕ) (xs ys : List ℕ) → n ≤ 4 → length xs ≡ 4 → ys ≡ take 4 (map f (take n xs) ++ replicate 4 0)
+    → take n ys ≡ map f (take n xs)
+padded-take f n xs ys l h q =
+    ap (λ (zs : List ℕ). take n zs) (q ∙ sym (through-all f n xs l h .0)) ∙ through-all f n xs l h .1
+
+pub padded-again : (f : ℕ → ℕ) (n : ℕ) (xs ys : List ℕ) → n ≤ 4 → length xs ≡ 4 → ys ≡ take 4 (map f (take n xs) ++ replicate 4 0)
+    → ys ≡ take 4 (take n ys ++ replicate 4 0)
+padded-again f n xs ys l h q = q ∙ ap (λ (zs : List ℕ). take 4 (zs ++ replicate 4 0)) (sym (padded-take f n xs ys l h q))

@@ -1,0 +1,97 @@
+-- The ways that making a list goes (rule C3). Assumes nothing.
+use Prim.Native.Nat.{ℕ, _+_, _≤_, _<_}
+use native.Mathlib.Omega.{arith}
+use mathlib.Core.Path.{_≡_, refl, sym, ap, _∙_}
+use mathlib.Core.Bool.{true, false}
+use mathlib.Core.List.{List, [], _∷_, _++_, map}
+use lib.Dec.{leb}
+use lib.ListN.{length, take, drop, replicate, length-take}
+use borrow.Author.Tests.{le-leb, lt-leb, eq-eqb, ne-eqb, leb-true}
+use Rattle.rules.specs.Choice.{every, sumOf, isZero}
+use Rattle.rules.specs.Table.{Table, typeAt, lengthAt}
+use Rattle.rules.specs.Terms.{list, typeOf, argumentsOf, numbersOf, listLength, lengthOf, newEntry, addEntry, findList}
+use Rattle.rules.specs.Handles.{entryOf, holdsHandle}
+use Rattle.rules.specs.Outcome.{gives, refused, needRoom, givesHandle}
+use Rattle.rules.specs.Commands.{giveNew, giveFoundOrNew, listIsAsked, mayBeListed, makeListOf, makeList}
+use Rattle.rules.specs.declared.Entry.{Entry}
+use Rattle.rules.proofs.Logic.{and-left, and-right}
+use Rattle.rules.proofs.Needs.{need-goes}
+use Rattle.rows.specs.Row.{seven}
+use Rattle.terms.specs.Elements.{numbers}
+use Rattle.commands.proofs.Ways.{need-fails, gives-new}
+use Rattle.commands.proofs.Arrays.{entryAt, entries-length}
+
+-- ---- whether a list is asked for
+module _ (k : ℕ) (hs : List ℕ) where
+  pub asked-none : k < 1 → listIsAsked k hs ≡ false
+  unfolding listIsAsked
+  asked-none h = rw (lt-leb 1 k h) refl
+
+  pub asked-many : 1 ≤ k → 4 < k → listIsAsked k hs ≡ false
+  unfolding listIsAsked
+  asked-many l h = rw (le-leb 1 k l, lt-leb k 4 h) refl
+
+  pub asked-few : 1 ≤ k → k ≤ 4 → listIsAsked k hs ≡ every isZero (drop k hs)
+  unfolding listIsAsked
+  asked-few l h = rw (le-leb 1 k l, le-leb k 4 h) refl
+
+  pub asked-fits : listIsAsked k hs ≡ true → k ≤ 4
+  unfolding listIsAsked
+  asked-fits p = leb-true k 4 (and-left (leb k 4) _ (and-right (leb 1 k) _ p))
+
+-- ---- what may not be listed
+pub secret : (t : Table) (e y : ℕ) → y ≡ typeAt t e → y ≡ 5 → mayBeListed t e ≡ false
+unfolding mayBeListed
+secret t e y p q = rw (eq-eqb (typeAt t e) 5 (sym p ∙ q)) refl
+
+pub no-secret : (t : Table) (e y : ℕ) → y ≡ typeAt t e → (y ≡ 5 → ⊥) → mayBeListed t e ≡ true
+unfolding mayBeListed
+no-secret t e y p q = rw (ne-eqb (typeAt t e) 5 (λ r. q (p ∙ r))) refl
+
+-- ---- of entries
+module _ (t : Table) (xs : List ℕ) where
+  pub secret-listed : every (mayBeListed t) xs ≡ false → makeListOf t xs ≡ gives (refused 6) t
+  unfolding makeListOf
+  secret-listed p = need-fails 6 t _ p
+
+  pub none-secret : every (mayBeListed t) xs ≡ true → makeListOf t xs ≡ giveFoundOrNew t (findList t xs) (list xs)
+  unfolding makeListOf
+  none-secret p = need-goes 6 t _ p
+
+-- the new list of the first n of four entries, after which there are zeros
+pub new-list : (t : Table) (n : ℕ) (es : List Entry) (s : ℕ) → n ≤ 4 → length es ≡ 4
+    → numbers es ≡ take 4 (take n (numbers es) ++ replicate 4 0) → s ≡ sumOf (lengthAt t) (take n (numbers es))
+    → giveNew t (list (take n (numbers es)))
+    ≡ needRoom t ((2 + s) ∷ [])
+    (givesHandle (addEntry t (seven 3 n (entryAt es 0 ∷ entryAt es 1 ∷ entryAt es 2 ∷ entryAt es 3 ∷ []) (2 + s))) (newEntry t))
+unfolding typeOf argumentsOf numbersOf listLength lengthOf seven
+new-list t n es s l four zeros sum =
+    gives-new t (list (take n (numbers es))) (2 + s) (seven 3 n (entryAt es 0 ∷ entryAt es 1 ∷ entryAt es 2 ∷ entryAt es 3 ∷ []) (2 + s))
+    (ap (λ (x : ℕ). 2 + x) (sym sum))
+    (rw (count, ← zeros) (ap (λ (ys : List ℕ). 3 ∷ n ∷ ys) (go es four)))
+  where
+    count : length (take n (numbers es)) ≡ n
+    count = length-take n (numbers es) ∙ omega (arith, entries-length es)
+
+    go : (es : List Entry) → length es ≡ 4 → numbers es ++ ((2 + s) ∷ []) ≡ entryAt es 0 ∷ entryAt es 1 ∷ entryAt es 2 ∷ entryAt es 3 ∷ (2 + s) ∷ []
+    go [] h = absurd (omega arith)
+    go (a ∷ []) h = absurd (omega arith)
+    go (a ∷ b ∷ []) h = absurd (omega arith)
+    go (a ∷ b ∷ c ∷ []) h = absurd (omega arith)
+    go (a ∷ b ∷ c ∷ d ∷ []) h = refl
+    go (a ∷ b ∷ c ∷ d ∷ e ∷ es) h = absurd (omega arith)
+
+-- ---- of handles
+module _ (t : Table) (k : ℕ) (hs : List ℕ) where
+  pub unasked-list : listIsAsked k hs ≡ false → makeList t k hs ≡ gives (refused 4) t
+  unfolding makeList
+  unasked-list p = need-fails 4 t _ p
+
+  pub unheld-list : listIsAsked k hs ≡ true → every (holdsHandle t 0) (take k hs) ≡ false → makeList t k hs ≡ gives (refused 5) t
+  unfolding makeList
+  unheld-list p q = need-goes 4 t _ p ∙ need-fails 5 t _ q
+
+  pub held-list : (xs : List ℕ) → listIsAsked k hs ≡ true → every (holdsHandle t 0) (take k hs) ≡ true → xs ≡ map (entryOf t 0) (take k hs)
+      → makeList t k hs ≡ makeListOf t xs
+  unfolding makeList
+  held-list xs p q r = need-goes 4 t _ p ∙ need-goes 5 t _ q ∙ ap (makeListOf t) (sym r)

@@ -1,0 +1,148 @@
+// The lent run as rows of numbers: row 0 is the head, row e is entry e (rule T1). Reads past the end give 0, writes there do nothing.
+ghost use mathlib.Core.Path.{_≡_};
+ghost use mathlib.Core.List.{_++_};
+ghost use Prim.Native.Nat.{_+_};
+ghost use lib.ListN.{length, replicate};
+ghost use Rattle.rules.specs.Table.{most, rowWidth, word, put, withRow, participants, mask, capacity, used, typeAt, countAt, argument, lengthAt};
+ghost use Rattle.rows.specs.Row.{seven, filled};
+use rules::Entry;
+
+// The highest participant that the table's form has room for.
+pub fn most(t: &[u16]) -> u16
+    ensures { λ r. ⌜ r ≡ most (now (t .entry)) ⌝ }
+{
+    8
+}
+
+// The numbers of a row.
+pub fn row_width(t: &[u16]) -> usize
+    ensures { λ r. ⌜ r ≡ rowWidth (now (t .entry)) ⌝ }
+{
+    8 + most(t) as usize
+}
+
+// Word k of row e.
+pub fn word(t: &[u16], e: Entry, k: u16) -> u16
+    ensures { λ r. ⌜ r ≡ word (now (t .entry)) (e .0) k ⌝ }
+{
+    let width = row_width(t);
+    let row = e.0 as usize;
+    let at = width * row + k as usize;
+    if at < t.len() { t[at] } else { 0 }
+}
+
+// Writes v to word k of row e.
+pub fn put(t: &mut [u16], e: Entry, k: u16, v: u16)
+    ensures { λ _. ⌜ now (t .exit) ≡ put (now (t .entry)) (e .0) k v ⌝ }
+{
+    let width = row_width(t);
+    let row = e.0 as usize;
+    let at = width * row + k as usize;
+    if at < t.len() {
+        t[at] = v;
+    }
+}
+
+// Makes every number of a run zero.
+pub fn clear(run: &mut [u16])
+    ensures { λ _. ⌜ now (run .exit) ≡ replicate (length (now (run .entry))) 0 ⌝ }
+{
+    let mut i: usize = 0;
+    while i < run.len() {
+        run[i] = 0;
+        i += 1;
+    }
+}
+
+// Writes a term's seven numbers to a row that has room for them, and zeros after them.
+fn write_row(row: &mut [u16], kind: u16, count: u16, args: [u16; 4], len: u16)
+    ensures { λ _. ⌜ now (row .exit) ≡ filled (seven kind count args len) (now (row .entry)) ⌝ }
+{
+    if row.len() < 7 {
+        return;
+    }
+    clear(row);
+    row[0] = kind;
+    row[1] = count;
+    row[2] = args[0];
+    row[3] = args[1];
+    row[4] = args[2];
+    row[5] = args[3];
+    row[6] = len;
+}
+
+// Writes a term to entry e, held by nobody: the entry's numbers are lent on as a part of the run.
+pub fn write_entry(t: &mut [u16], e: Entry, kind: u16, count: u16, args: [u16; 4], len: u16)
+    ensures { λ _. ⌜ now (t .exit) ≡ withRow (now (t .entry)) (e .0) (seven kind count args len ++ replicate (1 + most (now (t .entry))) 0) ⌝ }
+{
+    let width = row_width(t);
+    let row = e.0 as usize;
+    let from = width * row;
+    let to = from + width;
+    if to <= t.len() {
+        write_row(&mut t[from..to], kind, count, args, len);
+    }
+}
+
+// The fields of the head (rule T2).
+pub fn participants(t: &[u16]) -> u16
+    ensures { λ r. ⌜ r ≡ participants (now (t .entry)) ⌝ }
+{
+    word(t, Entry(0), 1)
+}
+
+pub fn mask(t: &[u16]) -> u16
+    ensures { λ r. ⌜ r ≡ mask (now (t .entry)) ⌝ }
+{
+    word(t, Entry(0), 2)
+}
+
+pub fn capacity(t: &[u16]) -> u16
+    ensures { λ r. ⌜ r ≡ capacity (now (t .entry)) ⌝ }
+{
+    word(t, Entry(0), 3)
+}
+
+pub fn used(t: &[u16]) -> u16
+    ensures { λ r. ⌜ r ≡ used (now (t .entry)) ⌝ }
+{
+    word(t, Entry(0), 4)
+}
+
+// The fields of an entry (rule T3).
+pub fn kind(t: &[u16], e: Entry) -> u16
+    ensures { λ r. ⌜ r ≡ typeAt (now (t .entry)) (e .0) ⌝ }
+{
+    word(t, e, 0)
+}
+
+pub fn count(t: &[u16], e: Entry) -> u16
+    ensures { λ r. ⌜ r ≡ countAt (now (t .entry)) (e .0) ⌝ }
+{
+    word(t, e, 1)
+}
+
+// The arguments by place.
+pub fn first(t: &[u16], e: Entry) -> u16
+    ensures { λ r. ⌜ r ≡ argument (now (t .entry)) (e .0) 1 ⌝ }
+{
+    word(t, e, 2)
+}
+
+pub fn second(t: &[u16], e: Entry) -> u16
+    ensures { λ r. ⌜ r ≡ argument (now (t .entry)) (e .0) 2 ⌝ }
+{
+    word(t, e, 3)
+}
+
+pub fn third(t: &[u16], e: Entry) -> u16
+    ensures { λ r. ⌜ r ≡ argument (now (t .entry)) (e .0) 3 ⌝ }
+{
+    word(t, e, 4)
+}
+
+pub fn length(t: &[u16], e: Entry) -> u16
+    ensures { λ r. ⌜ r ≡ lengthAt (now (t .entry)) (e .0) ⌝ }
+{
+    word(t, e, 6)
+}

@@ -1,0 +1,17 @@
+pub mod Choice
+pub mod Table
+pub mod Terms
+pub mod Handles
+pub mod SetUp
+pub mod WellFormed
+pub mod Outcome
+pub mod Commands
+pub mod Steps
+pub mod Machine
+pub mod Session
+pub mod Player
+pub mod Calls
+pub mod Meaning
+pub mod Handshake
+pub mod Cases
+pub mod Open

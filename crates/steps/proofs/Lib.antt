@@ -1,0 +1,4 @@
+pub mod Knowing
+pub mod Sends
+pub mod Delivers
+pub mod Unique

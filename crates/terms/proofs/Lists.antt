@@ -1,0 +1,100 @@
+-- When an entry is the list that is sought: the type, the number of elements and each element decide. Assumes nothing.
+use Prim.Native.Nat.{ℕ, zero, suc, _+_, _<_, min}
+use native.Mathlib.Omega.{arith}
+use native.Mathlib.Decide.{decLt}
+use mathlib.Core.Path.{_≡_, refl, sym, ap, _∙_}
+use mathlib.Core.Logic.{_≢_}
+use mathlib.Core.Bool.{Bool, true, false}
+use mathlib.Core.List.{List, [], _∷_}
+use lib.ListN.{length, getD, take, length-take}
+use lib.Seq.{ext-getD, getD-take}
+use borrow.Author.Tests.{eq-eqb, ne-eqb}
+use Rattle.rules.specs.Table.{Table, word, typeAt, countAt, arguments}
+use Rattle.rules.specs.Terms.{listType, isList, elements, isListOf}
+use Rattle.rules.specs.declared.Entry.{Entry}
+use Rattle.rules.proofs.Logic.{and-right, both, same-true, same-refl}
+use Rattle.terms.specs.Elements.{numbers}
+
+-- ---- the entries that are handed over
+-- the number of entry i of them
+abbrev pub numberAt : List Entry → ℕ → ℕ
+numberAt es i = getD es i (record { 0 = 0 }) .0
+
+numbers-length : (es : List Entry) → length (numbers es) ≡ length es
+numbers-length [] = refl
+numbers-length (e ∷ es) = ap suc (numbers-length es)
+
+number-at : (es : List Entry) (i : ℕ) → getD (numbers es) i 0 ≡ numberAt es i
+number-at [] i = refl
+number-at (e ∷ es) zero = refl
+number-at (e ∷ es) (suc i) = number-at es i
+
+-- ---- an entry and the list that is sought
+module _ (t : Table) (e : ℕ) where
+  -- the first k arguments are the first k numbers of the entries
+  abbrev pub Alike : List Entry → ℕ → Type 0
+  Alike es k = (i : ℕ) → i < k → word t e (2 + i) ≡ numberAt es i
+
+  pub alike-none : (es : List Entry) → Alike es 0
+  alike-none es i h = absurd (omega arith)
+
+  pub alike-next : (es : List Entry) (k : ℕ) → Alike es k → word t e (2 + k) ≡ numberAt es k → Alike es (k + 1)
+  alike-next es k f q i h = go (decLt i k)
+    where
+      go : Dec (i < k) → word t e (2 + i) ≡ numberAt es i
+      go (yes l) = f i l
+      go (no l) = let z : i ≡ k = omega arith in rw z q
+
+  argument-at : (i : ℕ) → i < 4 → getD (arguments t e) i 0 ≡ word t e (2 + i)
+  unfolding arguments
+  argument-at zero h = refl
+  argument-at (suc zero) h = refl
+  argument-at (suc (suc zero)) h = refl
+  argument-at (suc (suc (suc zero))) h = refl
+  argument-at (suc (suc (suc (suc i)))) h = absurd (omega arith)
+
+  -- another type
+  pub other-type : (xs : List ℕ) → typeAt t e ≢ listType → isListOf t xs e ≡ false
+  unfolding isListOf
+  other-type xs h = rw (ne-eqb (typeAt t e) listType h) refl
+
+  other-elements : (xs : List ℕ) → elements t e ≢ xs → isListOf t xs e ≡ false
+  unfolding isListOf
+  other-elements xs h = go (isListOf t xs e) refl
+    where
+      go : (b : Bool) → isListOf t xs e ≡ b → b ≡ false
+      go true q = absurd (h (same-true _ _ (and-right (isList t e) _ q)))
+      go false q = refl
+
+  -- the first n of four entries: w of them are wanted, and the entry has m
+  module _ (n : ℕ) (es : List Entry) (four : length es ≡ 4) (c m w : ℕ) (counted : c ≡ countAt t e) (few : m ≡ min c 4) (wanted : w ≡ min n 4) where
+    entry-length : length (elements t e) ≡ m
+    unfolding elements arguments
+    entry-length = length-take (countAt t e) (arguments t e) ∙ ap (λ (i : ℕ). min i 4) (sym counted) ∙ sym few
+
+    entry-at : (i : ℕ) → i < m → getD (elements t e) i 0 ≡ word t e (2 + i)
+    unfolding elements
+    entry-at i h = getD-take (countAt t e) (arguments t e) i 0 (omega arith) ∙ argument-at i (omega arith)
+
+    wanted-length : length (take n (numbers es)) ≡ w
+    wanted-length = length-take n (numbers es) ∙ ap (λ (i : ℕ). min n i) (numbers-length es ∙ four) ∙ sym wanted
+
+    wanted-at : (i : ℕ) → i < w → getD (take n (numbers es)) i 0 ≡ numberAt es i
+    wanted-at i h = getD-take n (numbers es) i 0 (omega arith) ∙ number-at es i
+
+    -- another number of elements
+    pub other-count : m ≢ w → isListOf t (take n (numbers es)) e ≡ false
+    other-count h = other-elements _ (λ q. h (sym entry-length ∙ ap {B = ℕ} length q ∙ wanted-length))
+
+    -- as many, but another element
+    pub other-element : m ≡ w → (k : ℕ) → k < w → word t e (2 + k) ≢ numberAt es k → isListOf t (take n (numbers es)) e ≡ false
+    other-element s k l h = other-elements _
+        (λ q. h (sym (entry-at k (omega arith)) ∙ ap (λ (xs : List ℕ). getD xs k 0) q ∙ wanted-at k l))
+
+    -- the very list
+    pub the-list : typeAt t e ≡ listType → m ≡ w → Alike es w → isListOf t (take n (numbers es)) e ≡ true
+    unfolding isListOf
+    the-list y s f =
+        let q : elements t e ≡ take n (numbers es) = ext-getD 0 _ _ (entry-length ∙ s ∙ sym wanted-length)
+        (λ i h. let l : i < m = rw entry-length at h in entry-at i l ∙ f i (omega arith) ∙ sym (wanted-at i (omega arith))) in
+        both (eq-eqb (typeAt t e) listType y) (rw q (same-refl (take n (numbers es))))

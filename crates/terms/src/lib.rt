@@ -1,0 +1,85 @@
+// Terms: a new entry, and the lowest entry that is a given datum or list (rules T9 and T10).
+ghost use mathlib.Core.Path.{_≡_};
+ghost use Prim.Native.Nat.{min};
+ghost use lib.ListN.{take};
+ghost use Rattle.rules.specs.Terms.{newEntry, addEntry, isDatumOf, findDatum, findList};
+ghost use Rattle.rules.specs.Meaning.{foundAt, orNothing};
+ghost use Rattle.rows.specs.Row.{seven};
+ghost use Rattle.terms.specs.Elements.{numbers};
+use rules::Entry;
+use rules::Found;
+
+// A new entry of these seven numbers, held by nobody; its number.
+pub fn create(t: &mut [u16], kind: u16, count: u16, args: [u16; 4], len: u16) -> Entry
+    ensures { λ r. ⌜ r .0 ≡ newEntry (now (t .entry)) ⌝ }
+    ensures { λ _. ⌜ now (t .exit) ≡ addEntry (now (t .entry)) (seven kind count args len) ⌝ }
+{
+    let used = rows::used(t);
+    let n = handles::raised(used);
+    rows::write_entry(t, Entry(n), kind, count, args, len);
+    rows::put(t, Entry(0), 4, n);
+    Entry(n)
+}
+
+// Entry e is data of value d.
+pub fn is_datum_of(t: &[u16], d: u16, e: Entry) -> bool
+    ensures { λ r. ⌜ r ≡ isDatumOf (now (t .entry)) d (e .0) ⌝ }
+{
+    if rows::kind(t, e) != 1 {
+        return false;
+    }
+    rows::first(t, e) == d
+}
+
+// The lowest data entry of value d.
+pub fn find_datum(t: &[u16], d: u16) -> Found
+    ensures { λ r. ⌜ foundAt r ≡ orNothing (findDatum (now (t .entry)) d) ⌝ }
+{
+    let used = rows::used(t);
+    let mut e: u16 = 0;
+    while e < used {
+        e += 1;
+        if is_datum_of(t, d, Entry(e)) {
+            return Found::At(Entry(e));
+        }
+    }
+    Found::Nothing
+}
+
+// The number of arguments that a count can mean.
+fn few(count: u16) -> u16
+    ensures { λ r. ⌜ r ≡ min count 4 ⌝ }
+{
+    if count < 4 { count } else { 4 }
+}
+
+// The lowest list entry with just the first `count` of these elements.
+pub fn find_list(t: &[u16], count: u16, elements: [Entry; 4]) -> Found
+    ensures { λ r. ⌜ foundAt r ≡ orNothing (findList (now (t .entry)) (take count (numbers elements))) ⌝ }
+{
+    let used = rows::used(t);
+    let wanted = few(count);
+    let mut e: u16 = 0;
+    let found = 'scan: loop {
+        if used <= e {
+            break 'scan Found::Nothing;
+        }
+        e += 1;
+        if rows::kind(t, Entry(e)) != 3 {
+            continue 'scan;
+        }
+        if few(rows::count(t, Entry(e))) != wanted {
+            continue 'scan;
+        }
+        let mut k: u16 = 0;
+        while k < wanted {
+            let x = elements[k as usize];
+            if rows::word(t, Entry(e), 2 + k) != x.0 {
+                continue 'scan;
+            }
+            k += 1;
+        }
+        break 'scan Found::At(Entry(e));
+    };
+    found
+}
