@@ -142,7 +142,7 @@ dropped-keeps r t q = go (kept-step r t)
     go (drops p z) = z
     go (does n vs p m d) = absurd (d (same-number (sym p ∙ q)))
 
-need-same : (b : Bool) (k : ℕ) (t : Table) (rest : Outcome) → rest .table ≡ t → need b k t rest .table ≡ t
+pub need-same : (b : Bool) (k : ℕ) (t : Table) (rest : Outcome) → rest .table ≡ t → need b k t rest .table ≡ t
 unfolding need
 need-same true k t rest h = h
 need-same false k t rest h = refl
@@ -162,6 +162,15 @@ set-up-refuses n m c t k = go (setUpFits t n m c)
         → (k ≡ 2) × ((if b then gives (ready (used (setUpTable t n m c))) (setUpTable t n m c) else gives (refused 2) t) .table ≡ t)
     go true q = let e : _≡_ {A = ℕ} 1 7 = same-number q in absurd (omega arith)
     go false q = (sym (ap (λ (l : List ℕ). getD l 1 0) q), refl)
+
+-- ---- the test that the table is well formed
+pub not-formed : (r : Request) (t : Table) → wellFormed t ≡ false → step r t ≡ gives (refused 1) t
+unfolding step need
+not-formed r t p = rw p refl
+
+pub is-formed : (r : Request) (t : Table) → wellFormed t ≡ true → step r t ≡ act r t
+unfolding step need
+is-formed r t p = rw p refl
 
 -- a well-formed table is never refused with 1
 pub formed-passes : (r : Request) (t : Table) → wellFormed t ≡ true → step r t .answer ≡ refused 1 → ⊥

@@ -25,6 +25,7 @@ pub mod Stands
 pub mod KeyRows
 pub mod KeyHolders
 pub mod AfterSetUp
+pub mod Answers
 pub mod SetUpFormed
 pub mod Reading
 pub mod Needs

@@ -271,6 +271,12 @@ odd (low ∷ more) l h =
     let e = eqb-true (l % 2) 1 (and-right (leb l (getD more 0 0)) _ (and-right (leb low l) _ h)) in
     omega (arith, e)
 
+-- a record that was read has at least three bytes, and ends within the file
+pub reads-on : (file : List ℕ) (at : ℕ) (r : Record) (next : ℕ) → readRecord file at ≡ found r next → (at + 3 ≤ next) × (next ≤ length file)
+reads-on file at r next e =
+    let w = whole file at r next e in
+    (omega (arith, w .end, odd _ (number file at) (w .known)), omega (arith, w .end, w .fits))
+
 -- m pairs of bytes from a position on
 abbrev pairs : List ℕ → ℕ → ℕ → List ℕ
 pairs file j zero = []

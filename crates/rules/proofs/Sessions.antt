@@ -17,7 +17,7 @@ use Rattle.rules.specs.Machine.{Request, SetUp, Asks, step, setUp, perfo
 use Rattle.rules.specs.Session.{Reading, found, malformed, ended, Item, item, broken, readRecord, standsRight, itemsBy, itemsFrom, itemsOf, requestsIn, fileFits}
 use Rattle.rules.specs.Player.{lineOf, linesFrom, cutLines, playersTable, answersTo, played}
 use Rattle.rules.specs.Open.{everything}
-use Rattle.rules.proofs.Keeps.{Kept, refuses, drops, does, kept-step}
+use Rattle.rules.proofs.Keeps.{Kept, refuses, drops, does, kept-step, not-formed}
 use Rattle.rules.proofs.Lines.{numbered, line-accepted, Worded, worded-none, worded-more, lines-cut}
 
 -- ---- what a file holds
@@ -121,22 +121,18 @@ accepted-by t first k v u (asks {more} r q) i = go (List·Memᴰ·cases-cons i) 
 
 -- ---- a table that isn't well formed refuses every request and stays
 module _ (t : Table) (bad : wellFormed t ≡ false) where
-  step-bad : (r : Request) → step r t ≡ gives (refused 1) t
-  unfolding step need
-  step-bad r = rw bad refl
-
   stays-bad : (rs : List Request) → tableAfter t (run rs t) ≡ t
   unfolding tableAfter run
   stays-bad [] = refl
-  stays-bad (r ∷ rs) = rw (step-bad r) (stays-bad rs)
+  stays-bad (r ∷ rs) = rw (not-formed r t bad) (stays-bad rs)
 
   none-accepted : {more : List Item} {first k v u : ℕ} → AcceptedBy more t first k v u → ⊥
   none-accepted a =
-      let q = rw (stays-bad (a .before), step-bad (a .request)) at (a .told) in
+      let q = rw (stays-bad (a .before), not-formed (a .request) t bad) at (a .told) in
       let z : _≡_ {A = ℕ} 7 3 = ap (λ (l : List ℕ). getD l 0 0) q in
       omega arith
 
-zeros-bad : wellFormed playersTable ≡ false
+pub zeros-bad : wellFormed playersTable ≡ false
 unfolding everything
 zeros-bad = refl
 

@@ -1,4 +1,4 @@
-// Printing for the programs that show a table: numbers, rows and holdings on standard output.
+// Printing for the programs that show a table: numbers, rows, holdings and the lines of answers, on standard output.
 use libc::STDOUT_FILENO;
 use rules::Answer;
 use rules::Entry;
@@ -51,36 +51,18 @@ pub fn table(t: &[u16], count: u16) {
     }
 }
 
-fn one(w: &[u8], a: u16) {
+// A word, a number and the end of the line.
+pub fn numbered(w: &[u8], n: u16) {
     text(w);
-    number(a);
+    number(n);
     text(b"\n");
 }
 
-fn two(w: &[u8], a: u16, b: u16) {
-    text(w);
-    number(a);
-    number(b);
-    text(b"\n");
-}
-
-fn three(w: &[u8], a: u16, b: u16, c: u16) {
-    text(w);
-    number(a);
-    number(b);
-    number(c);
-    text(b"\n");
-}
-
-// An answer as its word and values.
-pub fn answer(a: Answer) {
-    match a {
-        Answer::Ready(u) => one(b"ready", u),
-        Answer::Sent(p, q, h) => three(b"sent", p, q, h.0),
-        Answer::Accepted(p, q) => two(b"accepted", p, q),
-        Answer::Dropped => text(b"dropped\n"),
-        Answer::Handle(h) => one(b"handle", h.0),
-        Answer::Parsed(y, v, l) => three(b"parsed", y, v, l),
-        Answer::Refused(n) => one(b"refused", n),
+// The player's line of an answer to the record at a place. It fits for the places that a file has; a longer one is left out.
+pub fn line(place: usize, a: Answer) {
+    let mut out = [0u8; 31];
+    let end = text::line(&mut out, 0, place, a);
+    if end <= 31 {
+        text(&out[..end]);
     }
 }

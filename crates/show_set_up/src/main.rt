@@ -1,7 +1,7 @@
 // Shows what set-up does: case 1's holdings, every word of a small table on a run of nines, and a refusal.
 fn case_one() {
     let mut t = [9u16; 1040];
-    show::answer(set_up::set_up(&mut t, 3, 3, 64));
+    show::line(1, set_up::set_up(&mut t, 3, 3, 64));
     show::holdings(&t, 0);
     show::holdings(&t, 1);
     show::holdings(&t, 2);
@@ -10,13 +10,13 @@ fn case_one() {
 
 fn small_table() {
     let mut t = [9u16; 288];
-    show::answer(set_up::set_up(&mut t, 2, 1, 16));
+    show::line(1, set_up::set_up(&mut t, 2, 1, 16));
     show::table(&t, 18);
 }
 
 fn refused() {
     let mut t = [9u16; 32];
-    show::answer(set_up::set_up(&mut t, 2, 1, 16));
+    show::line(1, set_up::set_up(&mut t, 2, 1, 16));
     show::table(&t, 2);
 }
 

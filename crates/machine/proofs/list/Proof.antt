@@ -4,7 +4,8 @@ use borrow.Author.Tests.{not-true, not-false}
 use Rattle.rules.specs.Machine.{act}
 use Rattle.rules.specs.Meaning.{said}
 use Rattle.commands.proofs.Ways.{ends}
-use Rattle.machine.proofs.Acting.{beside-four, not-formed, is-formed}
+use Rattle.rules.proofs.Keeps.{not-formed, is-formed}
+use Rattle.machine.proofs.Acting.{beside-four}
 use borrow.Author.Needs.{needs}
 use Rattle.machine.proofs.list.Statement.{statement}
 use Rattle.machine.proofs.list.Tie as tie

@@ -4,7 +4,7 @@ use borrow.Author.Tests.{not-true, not-false}
 use Rattle.rules.specs.Machine.{act}
 use Rattle.rules.specs.Meaning.{said}
 use Rattle.commands.proofs.Ways.{ends}
-use Rattle.machine.proofs.Acting.{not-formed, is-formed}
+use Rattle.rules.proofs.Keeps.{not-formed, is-formed}
 use borrow.Author.Needs.{needs}
 use Rattle.machine.proofs.start.Statement.{statement}
 use Rattle.machine.proofs.start.Tie as tie
