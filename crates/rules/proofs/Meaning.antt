@@ -121,3 +121,8 @@ scan-found f n e l z p = rw (lowest-found f n e l z p, ne-eqb (e + 1) 0 (λ q. o
 pub scan-nothing : (f : ℕ → Bool) (n : ℕ) → lowest f n ≡ 0 → [] ≡ orNothing (lowest f n)
 unfolding orNothing
 scan-nothing f n z = rw z refl
+
+-- an equation for what an answer says and one for the run that is lent leave no choice of either; r stands for whatever else is lent
+pub told : {B : Type 0} (z z′ : Answer) (t t′ : List ℕ) (r : B) {x y : List ℕ} → (said z ≡ x) × (t ≡ y) → (said z′ ≡ x) × (t′ ≡ y)
+    → (z ≡ z′) × (_≡_ {A = List ℕ × B} (t, r) (t′, r))
+told z z′ t t′ r p q = (said-injective z z′ (p .0 ∙ sym (q .0)), ap (λ (u : List ℕ). (u, r)) (p .1 ∙ sym (q .1)))
