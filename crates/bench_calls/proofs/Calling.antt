@@ -1,16 +1,15 @@
 -- What the two calls give in each of their ways out: the rule's own tests decide. Assumes nothing.
 use Prim.Native.Nat.{ℕ, _+_, _≤_, _<_}
 use native.Mathlib.Omega.{arith}
-use mathlib.Core.Path.{_≡_, refl, sym, ap, _∙_}
+use mathlib.Core.Path.{_≡_, refl, ap, _∙_}
 use mathlib.Core.List.{List, [], _∷_, _++_, append-nil}
 use borrow.Author.Tests.{le-leb, lt-leb, eq-eqb, ne-eqb}
 use lib.ListN.{length, drop, replicate, getD, set}
 use lib.Seq.{drop-length, sets-eq}
 use Rattle.rules.specs.Table.{Table}
-use Rattle.rules.specs.Machine.{perform}
-use Rattle.rules.specs.Session.{Reading, readRecord}
+use Rattle.rules.specs.Session.{readRecord}
 use Rattle.rules.specs.Player.{played}
-use Rattle.rules.specs.Calls.{RecordCall, tooShort, playInto, keeps, performs, performRead, performInto}
+use Rattle.rules.specs.Calls.{tooShort, playInto, keeps, performs, performRead, performInto}
 use Rattle.rules.specs.Meaning.{asked}
 use Rattle.rules.specs.declared.Handle.{Handle}
 use Rattle.rules.specs.declared.Command.{Command}

@@ -8,7 +8,7 @@ use mathlib.Core.List.{List, [], _∷_, _++_, map}
 use lib.ListN.{length, getD, set, take, drop, replicate}
 use lib.Seq.{drop-cons}
 use borrow.Author.Tests.{eq-eqb, ne-eqb}
-use Rattle.rules.specs.Choice.{_and_, every, sumOf, isZero}
+use Rattle.rules.specs.Choice.{every, sumOf, isZero}
 use Rattle.rules.specs.declared.Entry.{Entry}
 use Rattle.rules.specs.declared.Handle.{Handle}
 use Rattle.rules.proofs.Logic.{and-left, and-right, both, never, every-at, mem-take}

@@ -1,8 +1,6 @@
 -- What an opened message means tells its values apart: it has a way back. And the meaning of each, as the code takes it apart.
 -- Assumes nothing.
-use Prim.Native.Nat.{ℕ}
 use mathlib.Core.Path.{_≡_, refl, sym, ap, _∙_}
-use Rattle.rules.specs.declared.Entry.{Entry}
 use Rattle.rules.specs.Steps.{Message, first, second, third, none}
 use Rattle.messages.specs.declared.Message.{Message as Messageᶜ}
 use Rattle.messages.specs.declared.Message.the-variants.{First, Second, Third}

@@ -1,6 +1,6 @@
 -- The public function's contract leaves no choice: it is an equation for what the result means, and that tells the results apart.
 -- Assumes nothing.
-use mathlib.Core.Path.{_≡_, refl}
+use mathlib.Core.Path.{refl}
 use mathlib.Core.List.{[]}
 use Rattle.tight.specs.Tight.{Tight, law, same-by}
 use Rattle.messages.specs.Reading.{readAs}

@@ -1,2 +1,4 @@
+pub mod Knowing
 pub mod Playing
 pub mod Unique
+pub mod WholeFile

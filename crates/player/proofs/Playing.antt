@@ -1,98 +1,24 @@
--- How playing goes on from record to record: whether the table is well formed is known after each, and the lines that are done and those
--- that are left are always the same ones together. Assumes nothing.
+-- How playing goes on from record to record: the lines that are done and those that are left are always the same ones together, and no line
+-- has more than 31 bytes. Assumes nothing.
 use Prim.Native.Nat.{ℕ, zero, suc, _+_, _*_, _≤_, _<_}
 use native.Mathlib.Omega.{arith}
-use mathlib.Core.Path.{_≡_, refl, sym, ap, _∙_}
-use mathlib.Core.Bool.{Bool, true, false, not}
+use mathlib.Core.Path.{_≡_, refl, sym, _∙_}
+use mathlib.Core.Bool.{true, false}
 use mathlib.Core.List.{List, [], _∷_, _++_, append-assoc, append-nil}
-use borrow.Author.Tests.{le-leb, lt-leb, leb-true}
-use lib.Dec.{eqb, leb}
-use lib.ListN.{length, length-append, getD, replicate}
-use Rattle.rules.specs.Choice.{if_then_else_}
-use Rattle.rules.specs.Table.{Table, used, wordsFor, thisVersion, mostOf}
-use Rattle.rules.specs.SetUp.{setUpFits, setUpTable}
-use Rattle.rules.specs.WellFormed.{wellFormed}
-use Rattle.rules.specs.Outcome.{Outcome, gives, need, ready, refused}
-use Rattle.rules.specs.Machine.{Request, Record, SetUp, Asks, step, setUp, perform, untested}
-use Rattle.rules.specs.Session.{Reading, found, malformed, ended, standsRight, readRecord, itemsBy, itemsFrom, itemsOf, fileFits, fileVersion, longestFile}
-use Rattle.rules.specs.Player.{lineOf, linesFrom, answersTo, playersTable, played}
+use lib.ListN.{length, length-append}
+use Rattle.rules.specs.Table.{Table}
+use Rattle.rules.specs.Outcome.{refused}
+use Rattle.rules.specs.Machine.{perform}
+use Rattle.rules.specs.Session.{found, standsRight, readRecord, itemsBy, itemsFrom, itemsOf}
+use Rattle.rules.specs.Player.{lineOf, linesFrom, answersTo}
 use Rattle.rules.specs.Meaning.{asked}
 use Rattle.rules.specs.declared.Handle.{Handle}
 use Rattle.rules.specs.declared.Command.{Command}
-use Rattle.rules.proofs.Logic.{and-left, and-right}
-use Rattle.rules.proofs.Keeps.{not-formed, is-formed}
-use Rattle.rules.proofs.Stays.{step-formed}
-use Rattle.rules.proofs.SetUpFormed.{set-up-formed}
 use Rattle.rules.proofs.RoundTrip.{reads-end, reads-on}
 use Rattle.session.specs.Session.{readAs}
 use Rattle.session.specs.declared.Step.{Step}
 use Rattle.session.specs.declared.Step.the-variants.{Record as Recordˢ, End, Malformed}
-use Rattle.player.specs.Known.{isSetUp, formedAfter, mostBytes}
-
--- ---- what is known of the table
-module _ (t : Table) where
-  pub known-formed : (r : Record) → wellFormed t ≡ true → perform r t ≡ untested r t
-  unfolding untested perform
-  known-formed (SetUp n m c) w = refl
-  known-formed (Asks r) w = is-formed r t w
-
-  pub known-set-up : (r : Record) → true ≡ isSetUp r → perform r t ≡ untested r t
-  unfolding untested perform isSetUp
-  known-set-up (SetUp n m c) p = refl
-  known-set-up (Asks r) p = cc
-
-  pub known-refused : (r : Record) → wellFormed t ≡ false → false ≡ isSetUp r → perform r t ≡ gives (refused 1) t
-  unfolding perform isSetUp
-  known-refused (SetUp n m c) w p = cc
-  known-refused (Asks r) w p = not-formed r t w
-
-  after-formed : (a : List ℕ) → formedAfter true a ≡ true
-  unfolding formedAfter
-  after-formed a = go (eqb (getD a 0 0) 1)
-    where
-      go : (b : Bool) → (if b then true else true) ≡ true
-      go true = refl
-      go false = refl
-
-  after-refused : formedAfter (wellFormed t) (refused 1) ≡ wellFormed t
-  unfolding formedAfter
-  after-refused = refl
-
-  set-up-known : (n m c : ℕ) → formedAfter (wellFormed t) (setUp n m c t .answer) ≡ wellFormed (setUp n m c t .table)
-  unfolding setUp need formedAfter
-  set-up-known n m c = go (setUpFits t n m c) refl
-    where
-      leaves : Bool → Outcome
-      leaves b = if b then gives (ready (used (setUpTable t n m c))) (setUpTable t n m c) else gives (refused 2) t
-
-      go : (b : Bool) → setUpFits t n m c ≡ b → formedAfter (wellFormed t) (leaves b .answer) ≡ wellFormed (leaves b .table)
-      go true f = sym (set-up-formed n m c t f)
-      go false f = refl
-
-  step-known : (r : Request) → formedAfter (wellFormed t) (step r t .answer) ≡ wellFormed (step r t .table)
-  step-known r = go (wellFormed t) refl
-    where
-      go : (b : Bool) → wellFormed t ≡ b → formedAfter (wellFormed t) (step r t .answer) ≡ wellFormed (step r t .table)
-      go true w = rw w (after-formed (step r t .answer) ∙ sym (step-formed r t w))
-      go false w = rw (not-formed r t w) after-refused
-
-  -- after each record it is known again
-  pub stays-known : (r : Record) → formedAfter (wellFormed t) (perform r t .answer) ≡ wellFormed (perform r t .table)
-  unfolding perform
-  stays-known (SetUp n m c) = set-up-known n m c
-  stays-known (Asks r) = step-known r
-
--- ---- where a record stands
-module _ (place : ℕ) where
-  pub stands-set-up : (r : Record) → true ≡ isSetUp r → eqb place 1 ≡ standsRight r place
-  unfolding isSetUp standsRight
-  stands-set-up (SetUp n m c) p = refl
-  stands-set-up (Asks r) p = cc
-
-  pub stands-request : (r : Record) → false ≡ isSetUp r → not (eqb place 1) ≡ standsRight r place
-  unfolding isSetUp standsRight
-  stands-request (SetUp n m c) p = cc
-  stands-request (Asks r) p = refl
+use Rattle.player.specs.Known.{mostBytes}
 
 -- ---- what is left of a file
 -- from record number `place`, which stands at a position, on: with the lines that are done it makes all of them
@@ -175,37 +101,3 @@ all-within done more size at s h d m e = rw (← e, length-append done more) (om
 pub done-within : {all : List ℕ} (done : List ℕ) (size at : ℕ) → size ≤ 65536 → at ≤ size + 1 → 3 * length done + 31 ≤ 31 * at → done ≡ all → length all ≤ mostBytes
 unfolding mostBytes
 done-within done size at s h d e = rw (← e) (omega arith)
-
--- ---- a whole file
-module _ (file : List ℕ) where
-  pub file-empty : length file < 1 → false ≡ fileFits file
-  unfolding fileFits
-  file-empty h = rw (lt-leb 1 (length file) h) refl
-
-  pub file-long : 65536 < length file → false ≡ fileFits file
-  unfolding fileFits longestFile
-  file-long h = rw (le-leb 1 (length file) (omega arith), lt-leb (length file) 65536 h) refl
-
-  pub file-version : 1 ≤ length file → length file ≤ 65536 → eqb (getD file 0 0) 1 ≡ fileFits file
-  unfolding fileFits longestFile fileVersion
-  file-version l h = rw (le-leb 1 (length file) l, le-leb (length file) 65536 h) refl
-
-  pub fits-short : fileFits file ≡ true → length file ≤ 65536
-  unfolding fileFits longestFile
-  fits-short f = leb-true (length file) 65536 (and-left (leb (length file) 65536) _ (and-right (leb 1 (length file)) _ f))
-
-  pub unplayed : fileFits file ≡ false → lineOf 0 (refused 11) ≡ played file
-  unfolding played
-  unplayed f = rw f refl
-
-  pub played-all : fileFits file ≡ true → linesFrom 1 (answersTo (itemsOf file) playersTable) ≡ played file
-  unfolding played
-  played-all f = rw f refl
-
-pub zeros : replicate 8208 0 ≡ playersTable
-unfolding playersTable wordsFor thisVersion mostOf
-zeros = refl
-
-pub unplayed-within : length (lineOf 0 (refused 11)) ≤ 31 → length (lineOf 0 (refused 11)) ≤ mostBytes
-unfolding mostBytes
-unplayed-within h = omega arith

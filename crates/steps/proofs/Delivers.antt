@@ -1,16 +1,16 @@
 -- Who may act, and the ways that a delivery goes before anything is sent, in the facts that the code has there. Assumes nothing.
-use Prim.Native.Nat.{ℕ, _+_, _≤_, _<_}
+use Prim.Native.Nat.{ℕ, _<_}
 use native.Mathlib.Omega.{arith}
-use mathlib.Core.Path.{_≡_, refl, sym, ap, _∙_}
+use mathlib.Core.Path.{_≡_, refl, sym, ap}
 use mathlib.Core.Bool.{Bool, true, false}
 use mathlib.Core.List.{List, [], _∷_}
 use lib.Dec.{eqb, leb}
 use lib.ListN.{length, getD}
 use borrow.Author.Tests.{eq-eqb, ne-eqb, leb-true}
 use Rattle.rules.specs.Choice.{if_then_else_}
-use Rattle.rules.specs.Table.{Table, most, participants, typeAt, isParticipant, honest}
+use Rattle.rules.specs.Table.{Table, most, participants, typeAt, isParticipant}
 use Rattle.rules.specs.Handles.{grantEach, entryOf, holdsHandle}
-use Rattle.rules.specs.Outcome.{Outcome, gives, accepted, dropped, refused, need, needRoom}
+use Rattle.rules.specs.Outcome.{gives, accepted, dropped, refused, need, needRoom}
 use Rattle.rules.specs.Steps.{Message, none, mayAct, start, namedLengths, sendNamed, readMessage, opened, answerFirst, answerSecond, answerMessage, deliverList, deliver}
 use Rattle.rules.specs.Meaning.{orNothing}
 use Rattle.rules.specs.declared.Entry.{Entry}

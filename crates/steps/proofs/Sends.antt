@@ -1,19 +1,19 @@
 -- What is made and sent, and the room for it: each way that the rules go, in the facts that the code has there. Assumes nothing.
-use Prim.Native.Nat.{ℕ, _+_, _-_, _*_, _≤_, _<_}
+use Prim.Native.Nat.{ℕ, _+_, _-_, _*_, _≤_}
 use native.Mathlib.Omega.{arith}
 use native.Mathlib.Decide.{ℕ-discrete, decLe}
 use mathlib.Core.Path.{_≡_, refl, sym, ap, _∙_}
 use mathlib.Core.Bool.{Bool, true, false}
 use mathlib.Core.List.{List, [], _∷_, _++_}
-use lib.Dec.{eqb, leb}
+use lib.Dec.{leb}
 use lib.ListN.{length}
 use borrow.Author.Tests.{le-leb, lt-leb, eq-eqb, ne-eqb, leb-true}
 use Rattle.rules.specs.Choice.{_and_, every}
 use Rattle.rules.specs.Table.{Table, used, capacity, lengthAt, handle}
-use Rattle.rules.specs.Terms.{Term, datum, nonce, list, ciphertext, typeOf, argumentsOf, longest, datumLength, nonceLength, listLength, ciphertextLength, publicKeyOf, numbersOf, newEntry, addEntry, create, findDatum, findList}
+use Rattle.rules.specs.Terms.{Term, datum, list, typeOf, argumentsOf, longest, datumLength, nonceLength, listLength, ciphertextLength, publicKeyOf, numbersOf, newEntry, addEntry, create, findDatum, findList}
 use Rattle.rules.specs.Handles.{grant, grantEach}
 use Rattle.rules.specs.Outcome.{Outcome, gives, refused, sent, need, isShort, needRoom}
-use Rattle.rules.specs.Steps.{Made, make, makeUnless, unlessFound, sealedLengths, send, namedLength, namedLengths, sendNamed, aloneLength, answerSecond}
+use Rattle.rules.specs.Steps.{make, makeUnless, unlessFound, sealedLengths, send, namedLength, namedLengths, sendNamed, aloneLength, answerSecond}
 use Rattle.rules.specs.Meaning.{orNothing}
 use Rattle.rules.proofs.Logic.{and-left, and-right}
 use Rattle.rules.proofs.Needs.{unless-none, unless-some, named-count, alone-count}

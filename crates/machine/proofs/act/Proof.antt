@@ -1,5 +1,4 @@
 -- `machine::act` meets its contract: each command is its function's. Assumes nothing.
-use mathlib.Core.Path.{sym}
 use Rattle.rules.specs.Machine.{act, untested}
 use Rattle.rules.specs.Meaning.{asked}
 use Rattle.machine.proofs.Acting.{beside-four, parse-table}

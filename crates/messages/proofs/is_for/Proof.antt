@@ -1,5 +1,5 @@
 -- `messages::is_for` meets its contract: the two tests are the rule's, and twice a word fits in 32 bits. Assumes nothing.
-use mathlib.Core.Path.{_≡_, refl}
+use mathlib.Core.Path.{refl}
 use borrow.Author.Tests.{eq-eqb, ne-eqb}
 use Rattle.rules.specs.Terms.{publicKeyOf}
 use Rattle.rules.specs.Steps.{isFor}

@@ -1,6 +1,6 @@
 -- `messages::read_list` meets its contract: it goes by the count as the rule does. Assumes nothing.
 use native.Mathlib.Omega.{arith}
-use mathlib.Core.Path.{_≡_, refl}
+use mathlib.Core.Path.{refl}
 use borrow.Author.Tests.{eq-eqb, ne-eqb, le-leb, lt-leb}
 use Rattle.rules.specs.Steps.{readList}
 use Rattle.messages.specs.Reading.{readAs}

@@ -1,5 +1,5 @@
 -- `messages::read_one` meets its contract: the test is the rule's. Assumes nothing.
-use mathlib.Core.Path.{_≡_, refl}
+use mathlib.Core.Path.{refl}
 use borrow.Author.Tests.{not-true, not-false}
 use Rattle.rules.specs.Steps.{readOne}
 use Rattle.messages.specs.Reading.{takenFor, readAs}

@@ -1,5 +1,5 @@
 -- `player::file_fits` meets its contract: the rule's three tests, in its order. Assumes nothing.
-use Rattle.player.proofs.Playing.{file-empty, file-long, file-version}
+use Rattle.player.proofs.WholeFile.{file-empty, file-long, file-version}
 use borrow.Author.Needs.{needs}
 use Rattle.player.proofs.file_fits.Statement.{statement}
 use Rattle.player.proofs.file_fits.Tie as tie

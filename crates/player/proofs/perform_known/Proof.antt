@@ -2,7 +2,7 @@
 use mathlib.Core.Path.{refl, sym, _∙_}
 use Rattle.rules.specs.Meaning.{said}
 use Rattle.commands.proofs.Ways.{ends}
-use Rattle.player.proofs.Playing.{known-formed, known-set-up, known-refused}
+use Rattle.player.proofs.Knowing.{known-formed, known-set-up, known-refused}
 use borrow.Author.Needs.{needs}
 use Rattle.player.proofs.perform_known.Statement.{statement}
 use Rattle.player.proofs.perform_known.Tie as tie

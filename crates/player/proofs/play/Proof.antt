@@ -9,7 +9,7 @@ use Rattle.rules.specs.Table.{Table}
 use Rattle.rules.specs.WellFormed.{wellFormed}
 use Rattle.rules.proofs.Sessions.{zeros-bad}
 use Rattle.text.proofs.Putting.{put-as}
-use Rattle.player.proofs.Playing.{fits-short, unplayed, played-all, zeros, unplayed-within}
+use Rattle.player.proofs.WholeFile.{fits-short, unplayed, played-all, zeros, unplayed-within}
 use borrow.Author.Needs.{needs}
 use Rattle.player.proofs.play.Statement.{statement}
 use Rattle.player.proofs.play.Tie as tie

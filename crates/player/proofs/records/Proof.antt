@@ -1,9 +1,9 @@
 -- `player::records` meets its contract: after each record the lines that are done and those that are left are all of them, and no line has
 -- more than 31 bytes. Assumes nothing.
-use Prim.Native.Nat.{ℕ, _+_, _*_, _-_, _≤_, _<_}
+use Prim.Native.Nat.{ℕ, _+_, _*_, _-_, _≤_}
 use native.Mathlib.Omega.{arith}
-use mathlib.Core.Path.{_≡_, refl, sym, ap, _∙_}
-use mathlib.Core.List.{List, [], _∷_, _++_}
+use mathlib.Core.Path.{_≡_, refl, sym, _∙_}
+use mathlib.Core.List.{List, [], _++_}
 use lib.ListN.{length, length-append}
 use borrow.Author.Needs.{needs}
 use borrow.Author.Tests.{not-true, not-false}
@@ -13,8 +13,8 @@ use Rattle.rules.specs.Player.{linesFrom, answersTo}
 use Rattle.rules.specs.Meaning.{said}
 use Rattle.text.specs.Put.{Put}
 use Rattle.text.proofs.Putting.{put-none, put-as, put-length, then}
-use Rattle.player.specs.Known.{mostBytes}
-use Rattle.player.proofs.Playing.{Left, begin, finish, at-end, at-malformed, onwards, misplaced, next-record, stays-known, all-within, done-within}
+use Rattle.player.proofs.Knowing.{stays-known}
+use Rattle.player.proofs.Playing.{Left, begin, finish, at-end, at-malformed, onwards, misplaced, next-record, all-within, done-within}
 use Rattle.player.proofs.records.Statement.{statement}
 use Rattle.player.proofs.records.Tie as tie
 

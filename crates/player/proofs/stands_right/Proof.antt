@@ -1,6 +1,6 @@
 -- `player::stands_right` meets its contract: a set-up stands first, a request anywhere else. Assumes nothing.
 use mathlib.Core.Path.{sym, _∙_}
-use Rattle.player.proofs.Playing.{stands-set-up, stands-request}
+use Rattle.player.proofs.Knowing.{stands-set-up, stands-request}
 use borrow.Author.Needs.{needs}
 use Rattle.player.proofs.stands_right.Statement.{statement}
 use Rattle.player.proofs.stands_right.Tie as tie

@@ -1,6 +1,5 @@
 -- `show::holdings` is safe and ends: the handles tried are at most a thousand. Assumes nothing.
 use Prim.Native.Nat.{_-_, _≤_}
-use native.Mathlib.Omega.{arith}
 use borrow.Author.Needs.{needs}
 use Rattle.show.proofs.holdings.Statement.{statement}
 use Rattle.show.proofs.holdings.Tie as tie

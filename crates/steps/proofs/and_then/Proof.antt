@@ -1,6 +1,5 @@
 -- `steps::and_then` meets its contract: the entry stands where the count ends. Assumes nothing.
 use native.Mathlib.Omega.{arith}
-use mathlib.Core.Path.{_≡_, _∙_}
 use lib.ListN.{length-set}
 use Rattle.steps.proofs.Knowing.{known-more}
 use borrow.Author.Needs.{needs}

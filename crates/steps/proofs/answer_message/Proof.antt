@@ -1,5 +1,4 @@
 -- `steps::answer_message` meets its contract: each message is answered as the rule says. Assumes nothing.
-use mathlib.Core.Path.{_≡_}
 use Rattle.rules.specs.Meaning.{said, foundAt}
 use Rattle.steps.proofs.Sends.{halves, carried}
 use Rattle.steps.proofs.Delivers.{answers-first, answers-second, answers-third}

@@ -1,6 +1,6 @@
 -- `steps::answer_second` meets its contract: it is refused as the rule says, else it goes the rule's way. Assumes nothing.
 use native.Mathlib.Omega.{arith}
-use mathlib.Core.Path.{_≡_, sym}
+use mathlib.Core.Path.{sym}
 use Rattle.rules.specs.Meaning.{said}
 use Rattle.steps.proofs.Sends.{halves, carried, sealed-low, alone-length, second-not, second-goes}
 use borrow.Author.Needs.{needs}

@@ -1,7 +1,6 @@
 -- `steps::create_named` meets its contract: three elements where something is repeated, else two. Assumes nothing.
-use mathlib.Core.Path.{_≡_, refl, _∙_}
-use mathlib.Core.List.{[], _∷_, _++_}
-use Rattle.rules.specs.Terms.{list, create}
+use mathlib.Core.Path.{_∙_}
+use Rattle.rules.specs.Terms.{create}
 use Rattle.rules.specs.Meaning.{foundAt}
 use Rattle.steps.proofs.Sends.{list-three, list-two}
 use borrow.Author.Needs.{needs}

@@ -1,5 +1,5 @@
 -- `steps::create_unless` meets its contract: what was found stands, and where nothing was a new entry is made. Assumes nothing.
-use mathlib.Core.Path.{_≡_, refl}
+use mathlib.Core.Path.{refl}
 use Rattle.rules.specs.Meaning.{foundAt}
 use Rattle.steps.specs.Sending.{addUnless}
 use borrow.Author.Needs.{needs}

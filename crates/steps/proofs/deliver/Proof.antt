@@ -1,7 +1,6 @@
 -- `steps::deliver` meets its contract: who may not act and a handle that names nothing are refused, else the list is delivered.
 -- Assumes nothing.
-use mathlib.Core.Path.{_≡_, sym, ap, _∙_}
-use mathlib.Core.Bool.{true, false}
+use mathlib.Core.Path.{sym, ap, _∙_}
 use borrow.Author.Tests.{not-true, not-false}
 use Rattle.rules.specs.Meaning.{said, foundAt}
 use Rattle.steps.proofs.Sends.{halves, carried}

@@ -1,6 +1,6 @@
 -- `steps::deliver_list` meets its contract: what is no list is refused, what is not taken is dropped, the rest answered.
 -- Assumes nothing.
-use mathlib.Core.Path.{_≡_, sym, _∙_}
+use mathlib.Core.Path.{sym, _∙_}
 use Rattle.rules.specs.Meaning.{said}
 use Rattle.messages.proofs.Read.{reads-none, reads-taken}
 use Rattle.steps.proofs.Sends.{halves, carried}

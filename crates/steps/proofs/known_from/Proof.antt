@@ -1,7 +1,7 @@
 -- `steps::known_from` meets its contract: so many elements count as the list has, and three at most. Assumes nothing.
 use Prim.Native.Nat.{_≤_}
 use native.Mathlib.Omega.{arith}
-use mathlib.Core.Path.{_≡_, refl}
+use mathlib.Core.Path.{refl}
 use Rattle.rules.specs.Table.{arguments}
 use Rattle.rules.specs.Terms.{elements}
 use Rattle.rules.specs.Steps.{opened}

@@ -1,6 +1,5 @@
 -- `steps::make_named` meets its contract: it goes the rule's way, entry by entry. Assumes nothing.
 use native.Mathlib.Omega.{arith}
-use mathlib.Core.Path.{_≡_}
 use Rattle.steps.proofs.Knowing.{known-two}
 use Rattle.steps.proofs.Sends.{carried, named-goes}
 use borrow.Author.Needs.{needs}

@@ -1,5 +1,5 @@
 -- `steps::may_act` meets its contract: the four tests are the rule's. Assumes nothing.
-use mathlib.Core.Path.{_≡_, refl}
+use mathlib.Core.Path.{refl}
 use borrow.Author.Tests.{eq-eqb, ne-eqb, not-true, not-false}
 use Rattle.rules.specs.Steps.{mayAct}
 use borrow.Author.Needs.{needs}

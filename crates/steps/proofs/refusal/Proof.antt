@@ -2,7 +2,6 @@
 use mathlib.Core.Path.{_≡_, refl}
 use mathlib.Core.Bool.{true, false}
 use borrow.Author.Tests.{not-true, not-false}
-use Rattle.steps.specs.Sending.{refusalFor}
 use borrow.Author.Needs.{needs}
 use Rattle.steps.proofs.refusal.Statement.{statement}
 use Rattle.steps.proofs.refusal.Tie as tie

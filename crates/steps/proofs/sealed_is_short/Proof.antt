@@ -1,6 +1,6 @@
 -- `steps::sealed_is_short` meets its contract: the three tests are the rule's. Assumes nothing.
 use Prim.Native.Nat.{_+_}
-use mathlib.Core.Path.{_≡_, refl}
+use mathlib.Core.Path.{refl}
 use borrow.Author.Tests.{le-leb, lt-leb}
 use Rattle.rules.specs.Choice.{every}
 use Rattle.rules.specs.Terms.{longest, listLength, ciphertextLength}

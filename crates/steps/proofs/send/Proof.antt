@@ -1,6 +1,5 @@
 -- `steps::send` meets its contract: it goes the rule's way, entry by entry and grant by grant. Assumes nothing.
 use native.Mathlib.Omega.{arith}
-use mathlib.Core.Path.{_≡_, refl}
 use Rattle.rules.specs.Meaning.{said}
 use Rattle.steps.proofs.Knowing.{known-three}
 use Rattle.steps.proofs.Sends.{halves, send-goes}

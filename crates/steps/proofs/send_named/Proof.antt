@@ -1,6 +1,6 @@
 -- `steps::send_named` meets its contract: it is refused as the rule says, else made and sent. Assumes nothing.
 use native.Mathlib.Omega.{arith}
-use mathlib.Core.Path.{_≡_, sym}
+use mathlib.Core.Path.{sym}
 use Rattle.rules.specs.Meaning.{said}
 use Rattle.steps.proofs.Sends.{halves, carried, sealed-low, named-not, named-there}
 use borrow.Author.Needs.{needs}

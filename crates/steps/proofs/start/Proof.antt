@@ -1,6 +1,6 @@
 -- `steps::start` meets its contract: who may not act is refused, else a message with a name is sent. Assumes nothing.
 use native.Mathlib.Omega.{arith}
-use mathlib.Core.Path.{_≡_, sym, _∙_}
+use mathlib.Core.Path.{sym, _∙_}
 use Rattle.rules.specs.Meaning.{said, foundAt}
 use Rattle.steps.proofs.Sends.{halves, carried}
 use Rattle.steps.proofs.Delivers.{peer-low, start-not, start-goes}
