@@ -121,6 +121,7 @@ static void check_step(void)
 
     size = setup->count > 0 ? write_record(record, 0, setup->words, setup->count)
                             : write_record(record, request->words[0], request->words + 1, request->count - 1);
+    expect(given[ANSWER].count <= FOUR, "the answer's length");
     memcpy(wanted, given[ANSWER].words, given[ANSWER].count * sizeof(uint16_t));
     if (size > 0)
         check_record(record, size, room, 0, wanted, FOUR);
@@ -144,6 +145,10 @@ static void read_numbers(struct numbers *to, const char *from)
             to->wide = (uint32_t *)realloc(to->wide, (to->count + 1024) * sizeof *to->wide);
             to->bytes = (uint8_t *)realloc(to->bytes, to->count + 1024);
             to->words = (uint16_t *)realloc(to->words, (to->count + 1024) * sizeof *to->words);
+            if (to->wide == NULL || to->bytes == NULL || to->words == NULL) {
+                perror("agree");
+                exit(2);
+            }
         }
         to->wide[to->count] = number;
         to->bytes[to->count] = (uint8_t)number;

@@ -64,7 +64,7 @@ enum bench_refusal {
     BENCH_NOT_WELL_FORMED = 1, /* the table isn't well formed */
     BENCH_BAD_SET_UP = 2,      /* n, mask or capacity out of range, or the table too short for the capacity */
     BENCH_BAD_PARTICIPANT = 3, /* 0 or above n, both the same, or the acting one isn't honest */
-    BENCH_BAD_COUNT = 4,       /* a place of 0 or over 4 */
+    BENCH_BAD_PLACE = 4,       /* a place of 0 or over 4; a list of a wrong count has no record: 11 */
     BENCH_NOT_HELD = 5,        /* a handle that the adversary doesn't hold */
     BENCH_WRONG_TYPE = 6,      /* not a list, key or ciphertext as needed, or a secret key put into a list */
     BENCH_PAST_LIST = 7,       /* a place beyond the list's count */
@@ -88,9 +88,9 @@ enum bench_refusal {
 uint32_t bench_play(const uint8_t *session, size_t session_length, uint8_t *output, size_t output_length);
 
 /*
- * Performs one record on the host's table (rule K2). The record is what a session file has between its version byte and
- * its end: two bytes of length and the body. Set-up may come at any time and makes the table anew; before the first the
- * table may hold anything, and commands are refused with 1.
+ * Performs one record on the host's table (rule K2). The record is one of those that follow a session file's version byte:
+ * two bytes of length and the body. Set-up may come at any time and makes the table anew, whatever it holds; a command on
+ * a table that isn't well formed is refused with 1.
  *
  * The result is 0 if the record was performed: the first four numbers of the answer are then a bench_word, its values and
  * zeros. A refusal 1 to 10 is such an answer too, BENCH_REFUSED and its number. Otherwise table and answer stay as they
@@ -99,8 +99,8 @@ uint32_t bench_play(const uint8_t *session, size_t session_length, uint8_t *outp
  *   12  if they are, but the answer has fewer than four numbers.
  * Numbers of the answer past the fourth always stay, and so do numbers of the table past its capacity.
  *
- * A table takes BENCH_TABLE_NUMBERS(capacity) numbers. Every command looks through the whole table first, since the host
- * may have changed it.
+ * A table takes BENCH_TABLE_NUMBERS(capacity) numbers. Every command first looks through the head and all used entries,
+ * since the host may have changed them.
  */
 uint32_t bench_perform(const uint8_t *record, size_t record_length, uint16_t *table, size_t table_length, uint16_t *answer,
                        size_t answer_length);

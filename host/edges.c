@@ -213,6 +213,7 @@ static void try_records(const struct example *e)
         s.size = size - at < 2 ? size - at : 2 + 256 * (size_t)s.record[0] + s.record[1];
         if (s.size > size - at)
             s.size = size - at;
+        expect(s.size <= BENCH_RECORD_MOST, "a record is longer than any, its bytes being", s.size);
         line = read_line(line, &s);
         perform_step(&s);
         for (place = first_place; place < PLACES; place++) {

@@ -126,6 +126,10 @@ static inline struct bytes read_file(const char *name, const char *ending)
         exit(2);
     }
     file.size = fread(file.at, 1, most, from);
+    if (ferror(from) || file.size == most) {
+        fprintf(stderr, "%s: can't be read whole\n", path);
+        exit(2);
+    }
     file.at[file.size] = 0;
     fclose(from);
     return file;

@@ -1,5 +1,5 @@
 /*
- * Faults on purpose, to see that edges.c finds them. Linked with `-Wl,--wrap=bench_play,--wrap=bench_perform` it stands between the
+ * Faults on purpose, to see that edges.c and agree.c find them. Linked with `-Wl,--wrap=bench_play,--wrap=bench_perform` it stands between the
  * tests and the archive: every call does what it should and then, in one way that the variable FAULT names, more or less than that.
  */
 #include "bench.h"

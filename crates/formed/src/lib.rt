@@ -3,9 +3,9 @@ ghost use mathlib.Core.Path.{_≡_};
 ghost use Prim.Native.Nat.{_≤_};
 ghost use lib.Dec.{eqb};
 ghost use Rattle.rules.specs.Choice.{_or_, agree, all};
-ghost use Rattle.rules.specs.Table.{thisVersion, most, version, participants, mask, used, nextHandle, sparesFit, everyKnower};
+ghost use Rattle.rules.specs.Table.{most, version, participants, mask, used, nextHandle, sparesFit, everyKnower};
 ghost use Rattle.rules.specs.Handles.{holds, held};
-ghost use Rattle.rules.specs.SetUp.{participantsFit, maskFits, capacityFits, holdsSecretKey, holdsPublicKey};
+ghost use Rattle.rules.specs.SetUp.{holdsSecretKey, holdsPublicKey};
 ghost use Rattle.rules.specs.WellFormed.{runIsLong, headFits, usedFits, heldAsNamed, isSecretKeyOf, isPublicKeyOf, keysFit};
 ghost use Rattle.rules.specs.WellFormed.{mayHold, handleIsBelow, handlesFit, wellFormed};
 use rules::Entry;
@@ -21,40 +21,6 @@ fn run_is_long(t: &[u16]) -> bool
     }
     let entries = width * rows::capacity(t) as usize;
     width + entries <= t.len()
-}
-
-// There are two participants at least, and no more than the form has room for.
-fn participants_fit(t: &[u16]) -> bool
-    requires { ⌜ version (now t) ≡ thisVersion ⌝ }
-    ensures { λ r. ⌜ r ≡ participantsFit (participants (now (t .entry))) ⌝ }
-{
-    let n = rows::participants(t);
-    if n < 2 {
-        return false;
-    }
-    n <= rows::most(t)
-}
-
-// The mask has no bit past the last participant's: nothing is left of it, halved once for each.
-fn mask_fits(n: u16, mask: u16) -> bool
-    ensures { λ r. ⌜ r ≡ maskFits n mask ⌝ }
-{
-    let mut rest = mask;
-    let mut i: u16 = 0;
-    while i < n {
-        rest = rest / 2;
-        i += 1;
-    }
-    rest == 0
-}
-
-fn capacity_fits(c: u16) -> bool
-    ensures { λ r. ⌜ r ≡ capacityFits c ⌝ }
-{
-    if c < 16 {
-        return false;
-    }
-    c <= 512
 }
 
 // The two words past the next handles are zero.
@@ -75,13 +41,13 @@ fn head_fits(t: &[u16]) -> bool
     if rows::word(t, Entry(0), 0) != 1 {
         return false; // the version
     }
-    if !participants_fit(t) {
+    if !ranges::participants_fit(rows::participants(t)) {
         return false; // the participants
     }
-    if !mask_fits(rows::participants(t), rows::mask(t)) {
+    if !ranges::mask_fits(rows::participants(t), rows::mask(t)) {
         return false; // the mask
     }
-    if !capacity_fits(rows::capacity(t)) {
+    if !ranges::capacity_fits(rows::capacity(t)) {
         return false; // the capacity
     }
     spares_fit(t)
@@ -118,16 +84,6 @@ fn holds_secret_key(mask: u16, p: u16, k: u16) -> bool
     k == 0
 }
 
-// Knower 0 and the honest hold every public key.
-fn holds_public_key(mask: u16, k: u16) -> bool
-    ensures { λ r. ⌜ r ≡ holdsPublicKey mask k ⌝ }
-{
-    if k == 0 {
-        return true;
-    }
-    people::in_mask(mask, k)
-}
-
 fn secret_key_is_held(t: &[u16], p: u16, e: Entry) -> bool
     ensures { λ r. ⌜ r ≡ everyKnower (now (t .entry)) (heldAsNamed (now (t .entry)) (holdsSecretKey (mask (now (t .entry))) p) (e .0)) ⌝ }
 {
@@ -150,7 +106,7 @@ fn public_key_is_held(t: &[u16], e: Entry) -> bool
     let last = rows::most(t);
     let mut k: u16 = 0;
     while k <= last {
-        if !held_as_named(t, holds_public_key(mask, k), e, k) {
+        if !held_as_named(t, ranges::holds_public_key(mask, k), e, k) {
             return false;
         }
         k += 1;

@@ -1,6 +1,5 @@
-// Handles: who holds an entry, granting, and the one way from a handle to its entry (rules T4, H1 to H3).
+// Handles: who holds an entry, granting, and the one way from a handle to its entry (rules T1 to T3, H1 to H3).
 ghost use mathlib.Core.Path.{_≡_};
-ghost use Prim.Native.Nat.{_≤_};
 ghost use Rattle.rules.specs.Table.{most, raised, nextHandle, setNextHandle, handle, setHandle};
 ghost use Rattle.rules.specs.Handles.{holds, grant, names, entryOf};
 ghost use Rattle.rules.specs.Meaning.{foundAt, orNothing};

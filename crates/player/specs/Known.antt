@@ -15,6 +15,6 @@ isSetUp (Asks r) = false
 unfoldable pub formedAfter : Bool → List ℕ → Bool
 formedAfter formed answer = if eqb (getD answer 0 0) 1 then true else formed
 
--- a record has at least 3 bytes and a line at most 31, so the lines of the longest file have no more than this
+-- a record has at least 3 bytes and a line at most 31: 31 for every 3 of the at most 65,534 bytes before the last line's record, and 31
 unfoldable pub mostBytes : ℕ
 mostBytes = 677215

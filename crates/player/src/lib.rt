@@ -1,4 +1,4 @@
-// Plays a session file: its records in turn on the player's own table, a line for each into a lent output (rules F5, P3 and P4).
+// Plays a session file: its records in turn on the player's own table, a line for each into a lent output (rules F1, F5 and P4).
 ghost use mathlib.Core.Path.{_≡_};
 ghost use mathlib.Core.Bool.{false};
 ghost use mathlib.Core.List.{List};

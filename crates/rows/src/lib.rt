@@ -1,4 +1,4 @@
-// The lent run as rows of numbers: row 0 is the head, row e is entry e (rule T1). Reads past the end give 0, writes there do nothing.
+// The lent run as rows of numbers: row 0 is the head, row e is entry e (rules T1 to T3). Reads past the end give 0, writes there do nothing.
 ghost use mathlib.Core.Path.{_≡_};
 ghost use mathlib.Core.List.{_++_};
 ghost use Prim.Native.Nat.{_+_};

@@ -13,7 +13,6 @@ use Rattle.rules.specs.SetUp.{setUpFits, setUpTable}
 use Rattle.rules.specs.Outcome.{accepted}
 use Rattle.rules.specs.Machine.{Request, step, run, tableAfter}
 use Rattle.rules.specs.Handshake.{termIn, turn, turns, InOrder, Starts, Answers, Replies, Accepts}
-use Rattle.rules.proofs.Logic.{never}
 use Rattle.rules.proofs.Holding.{Holds}
 use Rattle.rules.proofs.Shaping.{shaped}
 use Rattle.rules.proofs.Delivering.{honest-person}
@@ -25,7 +24,7 @@ use Rattle.rules.proofs.Safe.{hidden}
 use Rattle.rules.proofs.Moves.{Moves, derives, starts, answers, replies, accepts, not-accepted}
 use Rattle.rules.proofs.Safety.{last-message}
 use Rattle.rules.proofs.Following.{followed}
-use Rattle.rules.proofs.Secure.{Secure, zero-strange, secure-run, keys-secure}
+use Rattle.rules.proofs.Secure.{Secure, secure-run, keys-secure}
 
 -- ---- any sequence of requests after a set-up that isn't refused
 module _ (t : Table) (n m c : ℕ) (fits : setUpFits t n m c ≡ true) (rs : List Request) where
@@ -61,14 +60,6 @@ module _ (t : Table) (n m c : ℕ) (fits : setUpFits t n m c ≡ true) (rs : Lis
       go (yes z) d = z
       go (no d) (yes z) = hidden (honest (setUpTable t n m c)) hp hq (rw is at (secure .safe e (rw z at (held d))))
       go (no d) (no z) = neither (secure .priv k e p q z (held d) is hp hq)
-
-  -- not by knower 0 either, who is nobody honest
-  pub hidden-nonces : let s = setUpTable t n m c in let b = tableAfter s (run rs s) in
-      (e p q : ℕ) → termIn b e ≡ nonce p q → honest s p ≡ true → honest s q ≡ true → handle b 0 e ≡ 0
-  hidden-nonces e p q is hp hq = secret-nonces e p q is hp hq 0 (not-zero p hp) (not-zero q hq)
-    where
-      not-zero : (x : ℕ) → honest (setUpTable t n m c) x ≡ true → 0 ≢ x
-      not-zero x hx z = never (rw (← z) at hx) (zero-strange (setUpTable t n m c))
 
   -- an honest participant's secret key is held by nobody else
   pub secret-keys : let s = setUpTable t n m c in let b = tableAfter s (run rs s) in

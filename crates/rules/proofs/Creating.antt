@@ -29,14 +29,6 @@ raised-some n = go (decLt n 65535)
     go (yes l) = rw (lt-ltb n 65535 l) (omega arith)
     go (no l) = rw (le-ltb n 65535 (omega arith)) (omega arith)
 
-pub raised-fits : (n : ℕ) → n ≤ 65535 → raised n ≤ 65535
-unfolding raised largest
-raised-fits n h = go (decLt n 65535)
-  where
-    go : Dec (n < 65535) → (if ltb n 65535 then n + 1 else n) ≤ 65535
-    go (yes l) = rw (lt-ltb n 65535 l) (omega arith)
-    go (no l) = rw (le-ltb n 65535 (omega arith)) h
-
 pub new-real : (t : Table) → 1 ≤ newEntry t
 unfolding newEntry
 new-real t = raised-some (used t)

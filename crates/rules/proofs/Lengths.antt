@@ -28,7 +28,7 @@ decimal-within (suc k) n h = go (decLt n 10) (decimal-within k (n / 10) (omega a
 pub decimal-short : (n : ℕ) → n < 65536 → length (decimal n) ≤ 5
 decimal-short n h = decimal-within 4 n (omega arith)
 
--- ---- values and words
+-- ---- values
 pub spaced-short : (vs : List ℕ) → ((v : ℕ) → List·Memᴰ v vs → v < 65536) → length (spaced vs) ≤ 6 * length vs + 1
 unfolding spaced
 spaced-short [] h = omega arith
@@ -36,18 +36,6 @@ spaced-short (v ∷ vs) h =
     let d : length (decimal v) ≤ 5 = decimal-short v (h v (List·Memᴰ·head refl)) in
     let r : length (spaced vs) ≤ 6 * length vs + 1 = spaced-short vs (λ x i. h x (List·Memᴰ·tail i)) in
     rw (length-append (decimal v) (spaced vs)) (omega arith)
-
-pub word-short : (n : ℕ) → length (wordOf n) ≤ 8
-unfolding wordOf ascii
-word-short zero = omega arith
-word-short (suc zero) = omega arith
-word-short (suc (suc zero)) = omega arith
-word-short (suc (suc (suc zero))) = omega arith
-word-short (suc (suc (suc (suc zero)))) = omega arith
-word-short (suc (suc (suc (suc (suc zero))))) = omega arith
-word-short (suc (suc (suc (suc (suc (suc zero)))))) = omega arith
-word-short (suc (suc (suc (suc (suc (suc (suc zero))))))) = omega arith
-word-short (suc (suc (suc (suc (suc (suc (suc (suc n)))))))) = omega arith
 
 -- ---- a line
 pub line-within :

@@ -361,8 +361,3 @@ module _ (t : Table) (sh : Shaped t) (p q : ℕ) (person : Person t p) (known : 
   pub alone-sent : Posted t p q known (x ∷ []) (send p q known (makeUnless (findList t (x ∷ [])) t (list (x ∷ [])) l) l)
   unfolding alone
   alone-sent = send-posted t sh p q person known (x ∷ []) real alone l alone-creates (omega (arith, alone-used))
-
-  pub alone-sent-used : used (send p q known (makeUnless (findList t (x ∷ [])) t (list (x ∷ [])) l) l .table)
-      ≡ used t + length (unlessFound (findList t (x ∷ [])) l ++ sealedLengths l)
-  unfolding alone
-  alone-sent-used = send-used t sh p q person known (x ∷ []) real alone l alone-creates (omega (arith, alone-used)) ∙ alone-used

@@ -74,14 +74,6 @@ module _ (f : ℕ → Bool) where
   unfolding lowest
   lowest-skip n p q = rw add-one (simp (p, rw add-one at q))
 
-  pub lowest-hit : (n : ℕ) → lowest f n ≡ 0 → f (n + 1) ≡ true → lowest f (n + 1) ≡ n + 1
-  unfolding lowest
-  lowest-hit n p q = rw add-one (simp (p, rw add-one at q))
-
-  pub lowest-keep : (n : ℕ) → (lowest f n ≡ 0 → ⊥) → lowest f (n + 1) ≡ lowest f n
-  unfolding lowest
-  lowest-keep n h = rw add-one (simp (ne-eqb (lowest f n) 0 h))
-
   pub lowest-is : (n : ℕ) → Lowest n (lowest f n)
   unfolding lowest
   lowest-is zero = nowhere refl (λ e a b. absurd (omega arith))

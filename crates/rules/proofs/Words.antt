@@ -37,7 +37,7 @@ past-version : (w e k : ℕ) → 0 < w → 0 < e + k → 0 < w * e + k
 past-version w zero k h l = rw mul-zero (omega arith)
 past-version w (suc e) k h l = rw mul-suc (omega arith)
 
--- ---- the form: these three laws and `most-of` alone open `most`
+-- ---- the form: in this file these three laws and `most-of` alone open `most`
 pub most-same : (t s : Table) → getD t 0 0 ≡ getD s 0 0 → most t ≡ most s
 unfolding most
 most-same t s q = ap mostOf q

@@ -1,74 +1,36 @@
-// Set-up: the ranges of its three numbers, the empty table, and the participants' keys with their grants (rules S1 to S3 and M3).
+// Set-up: what it takes, the empty table, and the participants' keys with their grants (rules S1 to S3 and M3).
 ghost use mathlib.Core.Path.{_≡_};
 ghost use mathlib.Core.List.{_++_};
 ghost use Prim.Native.Nat.{_+_, _≤_};
 ghost use lib.ListN.{replicate, drop};
 ghost use lib.Seq.{sets};
 ghost use Rattle.rules.specs.Table.{size, thisVersion, mostOf, most, wordsFor};
-ghost use Rattle.rules.specs.SetUp.{participantsFit, maskFits, capacityFits, setUpFits, holdsPublicKey, emptyTable, grantNamed, addKeys, addAllKeys};
+ghost use Rattle.rules.specs.SetUp.{setUpFits, holdsPublicKey, emptyTable, grantNamed, addKeys, addAllKeys};
 ghost use Rattle.rules.specs.Machine.{setUp};
 ghost use Rattle.rules.specs.Meaning.{said};
 ghost use Rattle.set_up.specs.Holder.{secretHolder};
 use rules::Answer;
 use rules::Entry;
 
-// ---- the ranges
-// The highest participant that a table of the version that set-up writes has room for.
-fn new_most() -> u16
-    ensures { λ r. ⌜ r ≡ mostOf thisVersion ⌝ }
-{
-    8
-}
-
-// The numbers of a table of that version and this capacity.
+// ---- what it takes
+// The numbers of a table of the version that set-up writes, with this capacity.
 fn words_for(c: u16) -> usize
     ensures { λ r. ⌜ r ≡ wordsFor thisVersion c ⌝ }
 {
-    let width = 8 + new_most() as usize;
+    let width = 8 + ranges::new_most() as usize;
     width + width * c as usize
-}
-
-fn participants_fit(n: u16) -> bool
-    ensures { λ r. ⌜ r ≡ participantsFit n ⌝ }
-{
-    if n < 2 {
-        return false;
-    }
-    n <= new_most()
-}
-
-// A mask has no bit past the last participant's: halved once for each of them, nothing of it is left.
-fn mask_fits(n: u16, m: u16) -> bool
-    ensures { λ r. ⌜ r ≡ maskFits n m ⌝ }
-{
-    let mut rest = m;
-    let mut left = n;
-    while 0 < left {
-        rest = rest / 2;
-        left -= 1;
-    }
-    rest < 1
-}
-
-fn capacity_fits(c: u16) -> bool
-    ensures { λ r. ⌜ r ≡ capacityFits c ⌝ }
-{
-    if c < 16 {
-        return false;
-    }
-    c <= 512
 }
 
 fn set_up_fits(t: &[u16], n: u16, m: u16, c: u16) -> bool
     ensures { λ r. ⌜ r ≡ setUpFits (now (t .entry)) n m c ⌝ }
 {
-    if !participants_fit(n) {
+    if !ranges::participants_fit(n) {
         return false;
     }
-    if !mask_fits(n, m) {
+    if !ranges::mask_fits(n, m) {
         return false;
     }
-    if !capacity_fits(c) {
+    if !ranges::capacity_fits(c) {
         return false;
     }
     words_for(c) <= t.len()
@@ -88,7 +50,7 @@ fn clear_table(t: &mut [u16], c: u16)
 fn first_handles(t: &mut [u16])
     ensures { λ _. ⌜ now (t .exit) ≡ sets (now (t .entry)) 5 (replicate (1 + mostOf thisVersion) 1) ⌝ }
 {
-    let knowers = 1 + new_most();
+    let knowers = 1 + ranges::new_most();
     let mut k: u16 = 0;
     while k < knowers {
         rows::put(t, Entry(0), 5 + k, 1);
@@ -116,16 +78,6 @@ fn secret_holder(m: u16, p: u16) -> u16
     if people::in_mask(m, p) { p } else { 0 }
 }
 
-// Knower k is to hold the public keys: the adversary, and each honest participant.
-fn holds_public_key(m: u16, k: u16) -> bool
-    ensures { λ r. ⌜ r ≡ holdsPublicKey m k ⌝ }
-{
-    if k == 0 {
-        return true;
-    }
-    people::in_mask(m, k)
-}
-
 // Entry e, a public key, to those that are to hold it.
 fn grant_public(t: &mut [u16], m: u16, e: Entry)
     ensures { λ _. ⌜ now (t .exit) ≡ grantNamed (now (t .entry)) (holdsPublicKey m) (e .0) (most (now (t .entry))) ⌝ }
@@ -133,7 +85,7 @@ fn grant_public(t: &mut [u16], m: u16, e: Entry)
     let most = rows::most(t);
     let mut k: u16 = 0;
     while k <= most {
-        if holds_public_key(m, k) {
+        if ranges::holds_public_key(m, k) {
             handles::grant(t, k, e);
         }
         k += 1;

@@ -57,10 +57,6 @@ whole-new {a} {xs} h p =
 pub whole-next : {a xs b : List ℕ} {n : ℕ} → length xs ≤ length a → Put a 0 xs b n → n ≡ length xs
 whole-next h p = omega (arith, p .place)
 
--- bytes that don't fit, from any place
-pub past-next : {a : List ℕ} {i : ℕ} {xs b : List ℕ} {n : ℕ} → length a < i + length xs → Put a i xs b n → n ≡ length a + 1
-past-next h p = omega (arith, p .place)
-
 -- the next place says which
 pub next-fits : {a : List ℕ} {i : ℕ} {xs b : List ℕ} {n : ℕ} → n ≤ length a → Put a i xs b n → i + length xs ≤ length a
 next-fits h p = omega (arith, p .place)

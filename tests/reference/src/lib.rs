@@ -13,6 +13,8 @@ mod single;
 mod steps;
 pub mod table;
 #[cfg(test)]
+mod shown;
+#[cfg(test)]
 mod tests;
 
 pub use commands::{act, refusal, step, Answer, Record, Request};

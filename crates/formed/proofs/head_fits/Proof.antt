@@ -15,21 +15,20 @@ returns : tie.Need-returns
 unfolding headFits thisVersion
 returns c = rw (← c .before .word .ensures, ne-eqb _ 1 (c .if1 .taken)) refl
 
+participants-requires : tie.Need-participants-requires
+participants-requires c κs = search needs
+
 participants-fit-requires : tie.Need-participants-fit-requires
-unfolding thisVersion
-participants-fit-requires c κs = sym (c .before .word .ensures) ∙ c .if1 .left
+participants-fit-requires c κs = search needs
 
 returns-2 : tie.Need-returns-2
 unfolding headFits thisVersion
 returns-2 c =
-    rw (
-      ← c .before .before .before .word .ensures,
-      eq-eqb _ 1 (c .before .before .if1 .left),
-    )
-    (and-stops _ (c .before .participants-fit .ensures) (c .if2 .taken))
+    let people = rw (c .before .before .participants .ensures) at (c .before .participants-fit .ensures) in
+    rw (← c .before .before .before .before .word .ensures, eq-eqb _ 1 (c .before .before .before .if1 .left)) (and-stops _ people (c .if2 .taken))
 
-participants-requires : tie.Need-participants-requires
-participants-requires c κs = search needs
+participants-requires-2 : tie.Need-participants-requires-2
+participants-requires-2 c κs = search needs
 
 mask-requires : tie.Need-mask-requires
 mask-requires c κs = search needs
@@ -41,9 +40,10 @@ returns-3 : tie.Need-returns-3
 unfolding headFits thisVersion
 returns-3 c =
     let b = c .before .before .before .before in
-    let mask = rw (c .before .before .before .participants .ensures, c .before .before .mask .ensures) at (c .before .mask-fits .ensures) in
-    rw (← b .before .before .before .word .ensures, eq-eqb _ 1 (b .before .before .if1 .left))
-    (and-goes (b .before .participants-fit .ensures) (b .if2 .left) (and-stops _ mask (c .if3 .taken)))
+    let people = rw (b .before .before .participants .ensures) at (b .before .participants-fit .ensures) in
+    let mask = rw (c .before .before .before .participants2 .ensures, c .before .before .mask .ensures) at (c .before .mask-fits .ensures) in
+    rw (← b .before .before .before .before .word .ensures, eq-eqb _ 1 (b .before .before .before .if1 .left))
+    (and-goes people (b .if2 .left) (and-stops _ mask (c .if3 .taken)))
 
 capacity-requires : tie.Need-capacity-requires
 capacity-requires c κs = search needs
@@ -56,10 +56,11 @@ unfolding headFits thisVersion
 returns-4 c =
     let a = c .before .before .before in
     let b = a .before .before .before .before in
-    let mask = rw (a .before .before .before .participants .ensures, a .before .before .mask .ensures) at (a .before .mask-fits .ensures) in
+    let people = rw (b .before .before .participants .ensures) at (b .before .participants-fit .ensures) in
+    let mask = rw (a .before .before .before .participants2 .ensures, a .before .before .mask .ensures) at (a .before .mask-fits .ensures) in
     let capacity = rw (c .before .before .capacity .ensures) at (c .before .capacity-fits .ensures) in
-    rw (← b .before .before .before .word .ensures, eq-eqb _ 1 (b .before .before .if1 .left))
-    (and-goes (b .before .participants-fit .ensures) (b .if2 .left)
+    rw (← b .before .before .before .before .word .ensures, eq-eqb _ 1 (b .before .before .before .if1 .left))
+    (and-goes people (b .if2 .left)
     (and-goes mask (a .if3 .left) (and-stops _ capacity (c .if4 .taken))))
 
 spares-fit-requires : tie.Need-spares-fit-requires
@@ -70,10 +71,11 @@ unfolding headFits thisVersion
 returns-5 c =
     let a = c .before .before .before .before in
     let b = a .before .before .before .before in
-    let mask = rw (a .before .before .before .participants .ensures, a .before .before .mask .ensures) at (a .before .mask-fits .ensures) in
+    let people = rw (b .before .before .participants .ensures) at (b .before .participants-fit .ensures) in
+    let mask = rw (a .before .before .before .participants2 .ensures, a .before .before .mask .ensures) at (a .before .mask-fits .ensures) in
     let capacity = rw (c .before .before .before .capacity .ensures) at (c .before .before .capacity-fits .ensures) in
-    rw (← b .before .before .before .word .ensures, eq-eqb _ 1 (b .before .before .if1 .left))
-    (and-goes (b .before .participants-fit .ensures) (b .if2 .left)
+    rw (← b .before .before .before .before .word .ensures, eq-eqb _ 1 (b .before .before .before .if1 .left))
+    (and-goes people (b .if2 .left)
     (and-goes mask (a .if3 .left) (and-goes capacity (c .before .if4 .left) (c .spares-fit .ensures))))
 
 pub head-fits-spec : {M : Type 1} → statement M
@@ -82,9 +84,10 @@ head-fits-spec =
     (tie.spec
     word-requires
     returns
+    participants-requires
     participants-fit-requires
     returns-2
-    participants-requires
+    participants-requires-2
     mask-requires
     mask-fits-requires
     returns-3

@@ -6,7 +6,7 @@ use lib.ListN.{length, replicate}
 use lib.Seq.{sets}
 use borrow.Author.Needs.{needs}
 use Rattle.rules.specs.Table.{thisVersion, mostOf}
-use Rattle.set_up.proofs.Ranges.{new-most-high}
+use Rattle.set_up.proofs.Words.{new-most-high}
 use Rattle.set_up.proofs.Emptying.{handle-more}
 use Rattle.set_up.proofs.first_handles.Statement.{statement}
 use Rattle.set_up.proofs.first_handles.Tie as tie

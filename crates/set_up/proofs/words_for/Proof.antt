@@ -3,7 +3,7 @@ use Prim.Native.Nat.{_+_, _≤_, _<_}
 use native.Mathlib.Omega.{arith}
 use borrow.Author.Needs.{needs}
 use Rattle.rules.specs.Table.{thisVersion, mostOf, wordsFor}
-use Rattle.set_up.proofs.Ranges.{new-most-high, words-few}
+use Rattle.set_up.proofs.Words.{new-most-high, words-few}
 use Rattle.set_up.proofs.words_for.Statement.{statement}
 use Rattle.set_up.proofs.words_for.Tie as tie
 

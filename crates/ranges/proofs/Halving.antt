@@ -1,15 +1,13 @@
--- Two facts about the ranges: a mask is below 2 to the n if half of it is below 2 to the n - 1, and a table has few words. Assumes nothing.
-use Prim.Native.Nat.{ℕ, zero, suc, _-_, _*_, _/_, _^_, _≤_, _<_}
-use native.Mathlib.Nat.{suc-sub-suc, sub-zero, pow-suc, mul-le-mul}
+-- A mask is below 2 to the n if half of it is below 2 to the n - 1. Assumes nothing.
+use Prim.Native.Nat.{ℕ, zero, suc, _-_, _*_, _/_, _^_, _<_}
+use native.Mathlib.Nat.{suc-sub-suc, sub-zero, pow-suc}
 use native.Mathlib.Omega.{arith}
 use native.Mathlib.Decide.{decLt}
 use mathlib.Core.Path.{_≡_, refl, sym, _∙_}
 use lib.Dec.{ltb}
 use borrow.Author.Tests.{lt-ltb, le-ltb}
-use Rattle.rules.specs.Table.{thisVersion, mostOf}
 use Rattle.rules.specs.SetUp.{maskFits}
 
--- ---- the mask
 below-half : (a m : ℕ) → ltb (m / 2) a ≡ ltb m (a * 2)
 below-half a m = go (decLt (m / 2) a)
   where
@@ -25,13 +23,3 @@ half-fits (suc n) m h = rw (suc-sub-suc, sub-zero, pow-suc) (below-half (2 ^ n) 
 pub none-left : (m : ℕ) → ltb m 1 ≡ maskFits 0 m
 unfolding maskFits
 none-left m = refl
-
--- ---- the words
--- the form of the version that set-up writes is no wide one
-pub new-most-high : mostOf thisVersion ≤ 12
-unfolding mostOf thisVersion
-new-most-high = omega arith
-
--- so a table's words are few, for every capacity that a word holds
-pub words-few : (w c : ℕ) → w ≤ 20 → c < 65536 → w * c ≤ 20 * 65536
-words-few w c h l = let b : c ≤ 65536 = omega arith in mul-le-mul h b

@@ -1,8 +1,8 @@
--- `set_up::new_most` meets its contract: the version that set-up writes has room for eight. Assumes nothing.
+-- `ranges::new_most` meets its contract: the version that set-up writes has room for eight. Assumes nothing.
 use mathlib.Core.Path.{refl}
 use Rattle.rules.specs.Table.{thisVersion, mostOf}
-use Rattle.set_up.proofs.new_most.Statement.{statement}
-use Rattle.set_up.proofs.new_most.Tie as tie
+use Rattle.ranges.proofs.new_most.Statement.{statement}
+use Rattle.ranges.proofs.new_most.Tie as tie
 
 returns : tie.Need-returns
 unfolding mostOf thisVersion

@@ -1,11 +1,11 @@
--- `set_up::mask_fits` meets its contract: with each participant the mask is halved, and whether it fits stays. Assumes nothing.
+-- `ranges::mask_fits` meets its contract: with each participant the mask is halved, and whether it fits stays. Assumes nothing.
 use native.Mathlib.Omega.{arith}
 use mathlib.Core.Path.{_≡_, refl, _∙_}
 use borrow.Author.Needs.{needs}
 use Rattle.rules.specs.SetUp.{maskFits}
-use Rattle.set_up.proofs.Ranges.{half-fits, none-left}
-use Rattle.set_up.proofs.mask_fits.Statement.{statement}
-use Rattle.set_up.proofs.mask_fits.Tie as tie
+use Rattle.ranges.proofs.Halving.{half-fits, none-left}
+use Rattle.ranges.proofs.mask_fits.Statement.{statement}
+use Rattle.ranges.proofs.mask_fits.Tie as tie
 
 abbrev Inv-loop : tie.InvT-loop
 Inv-loop n m rest₀ left₀ rest left = maskFits left rest ≡ maskFits n m

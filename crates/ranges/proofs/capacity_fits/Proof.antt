@@ -1,9 +1,9 @@
--- `set_up::capacity_fits` meets its contract: the tests are the rule's. Assumes nothing.
+-- `ranges::capacity_fits` meets its contract: the tests are the rule's. Assumes nothing.
 use mathlib.Core.Path.{refl}
 use borrow.Author.Tests.{le-leb, lt-leb}
 use Rattle.rules.specs.SetUp.{capacityFits}
-use Rattle.set_up.proofs.capacity_fits.Statement.{statement}
-use Rattle.set_up.proofs.capacity_fits.Tie as tie
+use Rattle.ranges.proofs.capacity_fits.Statement.{statement}
+use Rattle.ranges.proofs.capacity_fits.Tie as tie
 
 returns : tie.Need-returns
 unfolding capacityFits

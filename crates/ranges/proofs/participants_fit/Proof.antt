@@ -1,10 +1,10 @@
--- `set_up::participants_fit` meets its contract: the tests are the rule's. Assumes nothing.
+-- `ranges::participants_fit` meets its contract: the tests are the rule's. Assumes nothing.
 use mathlib.Core.Path.{refl}
 use borrow.Author.Needs.{needs}
 use borrow.Author.Tests.{le-leb, lt-leb}
 use Rattle.rules.specs.SetUp.{participantsFit}
-use Rattle.set_up.proofs.participants_fit.Statement.{statement}
-use Rattle.set_up.proofs.participants_fit.Tie as tie
+use Rattle.ranges.proofs.participants_fit.Statement.{statement}
+use Rattle.ranges.proofs.participants_fit.Tie as tie
 
 returns : tie.Need-returns
 unfolding participantsFit

@@ -1,10 +1,10 @@
--- `set_up::holds_public_key` meets its contract: the tests are the rule's. Assumes nothing.
+-- `ranges::holds_public_key` meets its contract: the tests are the rule's. Assumes nothing.
 use mathlib.Core.Path.{refl}
 use borrow.Author.Needs.{needs}
 use borrow.Author.Tests.{eq-eqb, ne-eqb}
 use Rattle.rules.specs.SetUp.{holdsPublicKey}
-use Rattle.set_up.proofs.holds_public_key.Statement.{statement}
-use Rattle.set_up.proofs.holds_public_key.Tie as tie
+use Rattle.ranges.proofs.holds_public_key.Statement.{statement}
+use Rattle.ranges.proofs.holds_public_key.Tie as tie
 
 returns : tie.Need-returns
 unfolding holdsPublicKey
