@@ -8,6 +8,7 @@ pub mod cases;
 mod commands;
 mod formed;
 mod player;
+pub mod search;
 mod session;
 mod single;
 mod steps;

@@ -13,12 +13,12 @@ use crate::commands::{admit, adversary_holds, of_type, refusal, Answer, Outcome}
 use crate::table::*;
 
 /// A delivered message that its receiver could open.
-struct Opened {
+pub(crate) struct Opened {
     delivered: Entry,
     ciphertext: Entry,
     list: Entry,
-    count: u16,
-    elements: [Entry; 4],
+    pub(crate) count: u16,
+    pub(crate) elements: [Entry; 4],
 }
 
 /// What the receiver takes an opened message for.
@@ -58,14 +58,14 @@ pub(crate) fn deliver(table: &mut [u16], s: u16, r: u16, handle: Handle) -> Outc
 }
 
 /// Two different participants, of which the acting one is honest.
-fn pair_fits(table: &[u16], acting: u16, other: u16) -> Result<(), u16> {
+pub(crate) fn pair_fits(table: &[u16], acting: u16, other: u16) -> Result<(), u16> {
     let both = 1..=participants(table);
     let fits =
         both.contains(&acting) && both.contains(&other) && acting != other && honest(table, acting);
     fits.then_some(()).ok_or(refusal::PARTICIPANT)
 }
 
-fn open(table: &[u16], r: u16, delivered: Entry) -> Option<Opened> {
+pub(crate) fn open(table: &[u16], r: u16, delivered: Entry) -> Option<Opened> {
     let ciphertext = Entry(row(table, delivered)[ARGS]);
     let outer = row(table, ciphertext);
     if outer[TYPE] != CIPHERTEXT || outer[ARGS] != public_key_of(r).0 {
@@ -92,12 +92,12 @@ fn recognise(table: &[u16], s: u16, r: u16, opened: &Opened) -> Option<Message> 
     }
 }
 
-fn is_nonce(table: &[u16], entry: Entry, owner: u16, partner: u16) -> bool {
+pub(crate) fn is_nonce(table: &[u16], entry: Entry, owner: u16, partner: u16) -> bool {
     let row = row(table, entry);
     row[TYPE] == NONCE && row[ARGS] == owner && row[ARGS + 1] == partner
 }
 
-fn is_data(table: &[u16], entry: Entry, value: u16) -> bool {
+pub(crate) fn is_data(table: &[u16], entry: Entry, value: u16) -> bool {
     let row = row(table, entry);
     row[TYPE] == DATA && row[ARGS] == value
 }
@@ -116,7 +116,7 @@ fn answer_first(table: &mut [u16], s: u16, r: u16, opened: &Opened) -> Outcome {
 }
 
 /// The answer that carries x2 back alone.
-fn answer_second(table: &mut [u16], s: u16, r: u16, opened: &Opened) -> Outcome {
+pub(crate) fn answer_second(table: &mut [u16], s: u16, r: u16, opened: &Opened) -> Outcome {
     let elements = [opened.elements[1].0, 0, 0, 0];
     let length = LIST_EXTRA + length(table, opened.elements[1]);
     let list = find_list(table, 1, elements);
@@ -127,7 +127,7 @@ fn answer_second(table: &mut [u16], s: u16, r: u16, opened: &Opened) -> Outcome 
 }
 
 /// Grants the receiver what it could see of the message.
-fn learn(table: &mut [u16], r: u16, opened: &Opened) {
+pub(crate) fn learn(table: &mut [u16], r: u16, opened: &Opened) {
     grant(table, r, opened.delivered);
     grant(table, r, opened.ciphertext);
     grant(table, r, opened.list);
@@ -138,12 +138,12 @@ fn learn(table: &mut [u16], r: u16, opened: &Opened) {
 }
 
 /// The length of the outer list around a list of the given length.
-fn sealed(list: u32) -> u32 {
+pub(crate) fn sealed(list: u32) -> u32 {
     list + CIPHERTEXT_EXTRA + LIST_EXTRA
 }
 
 /// Seals a list for its receiver and puts it on the wire.
-fn send(table: &mut [u16], from: u16, to: u16, list: Entry) -> Answer {
+pub(crate) fn send(table: &mut [u16], from: u16, to: u16, list: Entry) -> Answer {
     let length = length(table, list) + CIPHERTEXT_EXTRA;
     let term = Term::ciphertext(public_key_of(to), list, length);
     let ciphertext = make(table, from, term);
@@ -152,7 +152,7 @@ fn send(table: &mut [u16], from: u16, to: u16, list: Entry) -> Answer {
     Answer::Sent(from, to, grant(table, ADVERSARY, outer).0)
 }
 
-fn make(table: &mut [u16], knower: u16, term: Term) -> Entry {
+pub(crate) fn make(table: &mut [u16], knower: u16, term: Term) -> Entry {
     let entry = add(table, term);
     grant(table, knower, entry);
     entry
