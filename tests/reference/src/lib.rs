@@ -20,7 +20,7 @@ mod tests;
 
 pub use commands::{act, refusal, step, Answer, Record, Request};
 pub use formed::well_formed;
-pub use player::{play, play_call, play_in, Mode, PLAYER_WORDS};
+pub use player::{play, play_call, play_call_in, play_in, Mode, PLAYER_WORDS};
 pub use session::{read_record, write_record, Read, Written};
 pub use single::single;
 pub use table::set_up;

@@ -38,9 +38,16 @@ pub fn play(session: &[u8]) -> Vec<u8> {
 /// All that the player prints, with a choice of how it performs commands.
 pub fn play_in(session: &[u8], mode: Mode) -> Vec<u8> {
     let mut lines = Vec::new();
+    play_to(session, mode, |line| lines.extend_from_slice(line));
+    lines
+}
+
+/// Plays a session and hands on each line as it is made.
+fn play_to(session: &[u8], mode: Mode, mut say: impl FnMut(&[u8])) {
+    let mut line = Line::new();
     if session.first() != Some(&VERSION) || session.len() > LONGEST_FILE {
-        push_line(&mut lines, 0, &Answer::Refused(refusal::MALFORMED));
-        return lines;
+        say(line.of(0, &Answer::Refused(refusal::MALFORMED)));
+        return;
     }
     let mut player = Player::new(mode);
     let mut at = 1;
@@ -53,12 +60,11 @@ pub fn play_in(session: &[u8], mode: Mode) -> Vec<u8> {
                 player.perform(number, record)
             }
         };
-        push_line(&mut lines, number, &answer);
+        say(line.of(number, &answer));
         if answer == Answer::Refused(refusal::MALFORMED) {
             break;
         }
     }
-    lines
 }
 
 /// The player's table and whether it may be used untested.
@@ -86,50 +92,81 @@ impl Player {
                 answer
             }
             Record::Request(request) if number > 1 => {
-                let perform = if self.trusted { act } else { step };
-                perform(&mut self.table, request)
+                if self.trusted {
+                    act(&mut self.table, request)
+                } else {
+                    step(&mut self.table, request)
+                }
             }
             _ => Answer::Refused(refusal::MALFORMED),
         }
     }
 }
 
-fn push_line(lines: &mut Vec<u8>, number: u32, answer: &Answer) {
-    push_number(lines, number);
-    lines.push(b' ');
-    lines.extend_from_slice(answer.word().as_bytes());
-    let (_, values, count) = answer.parts();
-    for &value in &values[..count] {
-        lines.push(b' ');
-        push_number(lines, u32::from(value));
-    }
-    lines.push(b'\n');
-}
+/// A number of ten digits, the longest word, three values, the line feed.
+const LONGEST_LINE: usize = 10 + 9 + 3 * 6 + 1;
 
-fn push_number(lines: &mut Vec<u8>, number: u32) {
-    let mut digits = [0; 10];
-    let mut first = digits.len();
-    let mut rest = number;
-    loop {
-        first -= 1;
-        digits[first] = b'0' + (rest % 10) as u8;
-        rest /= 10;
-        if rest == 0 {
-            break;
+/// Room for a line, which is made from its end: that way a number's digits
+/// come in the order in which division gives them.
+struct Line([u8; LONGEST_LINE]);
+
+impl Line {
+    fn new() -> Self {
+        Self([0; LONGEST_LINE])
+    }
+
+    fn of(&mut self, number: u32, answer: &Answer) -> &[u8] {
+        let mut first = self.put(LONGEST_LINE, b"\n");
+        let (_, values, count) = answer.parts();
+        for &value in values[..count].iter().rev() {
+            first = self.put_number(first, u32::from(value));
+            first = self.put(first, b" ");
+        }
+        first = self.put(first, answer.word().as_bytes());
+        first = self.put(first, b" ");
+        first = self.put_number(first, number);
+        &self.0[first..]
+    }
+
+    /// Puts bytes before a place and gives the place of the first.
+    fn put(&mut self, before: usize, bytes: &[u8]) -> usize {
+        let first = before - bytes.len();
+        self.0[first..before].copy_from_slice(bytes);
+        first
+    }
+
+    fn put_number(&mut self, before: usize, number: u32) -> usize {
+        let mut first = before;
+        let mut rest = number;
+        loop {
+            first -= 1;
+            self.0[first] = b'0' + (rest % 10) as u8;
+            rest /= 10;
+            if rest == 0 {
+                return first;
+            }
         }
     }
-    lines.extend_from_slice(&digits[first..]);
 }
 
 /// Plays a session into a lent output and gives the number of bytes written,
 /// or 4,294,967,295 and an output of zeros if the lines don't fit.
 pub fn play_call(session: &[u8], out: &mut [u8]) -> u32 {
-    let lines = play(session);
-    match (out.get_mut(..lines.len()), u32::try_from(lines.len())) {
-        (Some(start), Ok(written)) => {
-            start.copy_from_slice(&lines);
-            written
-        }
+    play_call_in(session, out, Mode::Checked)
+}
+
+/// The same, with a choice of how commands are performed. The lines go
+/// straight to the output, and nothing is allocated.
+pub fn play_call_in(session: &[u8], out: &mut [u8], mode: Mode) -> u32 {
+    let mut end = Some(0);
+    play_to(session, mode, |line| {
+        end = end.and_then(|end| {
+            out.get_mut(end..end + line.len())?.copy_from_slice(line);
+            Some(end + line.len())
+        });
+    });
+    match end.map(u32::try_from) {
+        Some(Ok(written)) => written,
         _ => {
             out.fill(0);
             DOES_NOT_FIT

@@ -341,6 +341,9 @@ fn call_for_the_c_host() {
     let mut out = vec![9; lines.len() - 1];
     assert_eq!(play_call(&SESSION, &mut out), u32::MAX);
     assert!(out.iter().all(|&byte| byte == 0));
+    let mut out = vec![9; lines.len()];
+    let written = play_call_in(&SESSION, &mut out, Mode::Trusting);
+    assert_eq!((written as usize, out), (lines.len(), lines));
 }
 
 #[test]
