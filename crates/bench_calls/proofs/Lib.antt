@@ -1,2 +1,3 @@
 pub mod Calling
+pub mod Shut
 pub mod Unique

@@ -8,14 +8,12 @@ use mathlib.Core.Bool.{Bool, true, false, not}
 use mathlib.Core.List.{List, [], _∷_, List·isSet}
 use lib.Dec.{eqb, leb, ltb}
 use lib.ListN.{length, getD, replicate}
-use base.Logic.{ent, sep, emp, via, mono∗, emp∗}
-use contract.Monad.{fact, factI}
 use contract.Lifetimes.{Lfts}
-use denote.Triple.Entry.{Args, Res}
-use denote.Triple.Clauses.{Ended, Lasts, atExit}
-use borrow.Fn.World.{World, Pr, w₀}
+use denote.Triple.Entry.{Args}
+use denote.Triple.Clauses.{Ended}
 use borrow.Author.Tests.{eqb-false, not-true}
-use Rattle.tight.specs.Tight.{Written, at}
+use Rattle.tight.specs.Tight.{Written}
+use Rattle.tight.specs.Meeting.{Inputs, Meeting, by-facts, agree}
 use Rattle.rules.specs.Choice.{_and_, if_then_else_, every}
 use Rattle.rules.specs.Table.{Table, thisVersion, mostOf, most, wordsFor, largest, participants, used, handle, everyKnower}
 use Rattle.rules.specs.Outcome.{sent, accepted}
@@ -62,29 +60,21 @@ called = own.perform.ended
 abbrev promised : Written called
 promised M = own.perform.clauses
 
--- any choice of an answer and of the run's last numbers, for each input and wherever the run lies, that meets the contract which `perform`
--- is written with, in every model of memory. It meets it at what can be passed, where alone a program can be tried
-pub record Machine : Type 2 where
-  pub gives : (κs : Lfts 1) (a : Args (called .signature) κs) → Res (called .signature) κs
-  pub leaves : (κs : Lfts 1) (a : Args (called .signature) κs) → Lasts called κs a
-  pub meets :
-      (w : World) (κs : Lfts 1) (a : Args (called .signature) κs) (g : at called promised w κs a .ghost)
-      → canBePassed (a .1 .0) (a .1 .1 .0) (a .0 .now) ≡ true
-      → ent (w .𝓤) (at called promised w κs a .requires g)
-      (at called promised w κs a .ensures g (gives κs a) (atExit called κs a (leaves κs a)))
+-- what can be passed, where alone a program can be tried
+abbrev pub Tried : Inputs called
+Tried κs a = canBePassed (a .1 .0) (a .1 .1 .0) (a .0 .now) ≡ true
 
-both-facts : (w : World) (P : Pr w) (φ ψ : Type 0) → φ → ψ → ent (w .𝓤) P (sep (w .𝓤) (fact (w .𝓤) φ) (fact (w .𝓤) ψ))
-both-facts w P φ ψ x y =
-    via (w .𝓤) (sep (w .𝓤) (emp (w .𝓤)) P) (emp∗ (w .𝓤) P)
-    (mono∗ (w .𝓤) (factI (w .𝓤) φ (emp (w .𝓤)) x) (factI (w .𝓤) ψ P y))
+-- any choice of an answer and of the run's last numbers, for each input and wherever the run lies, that meets the contract which `perform`
+-- is written with, in every model of memory
+abbrev pub Machine : Type 2
+Machine = Meeting called promised Tried
 
 -- there is one: the rules
 pub the-rules : Machine
-the-rules = record {
-  gives = λ κs a. unsaid (perform (asked (a .1 .0) (a .1 .1 .0)) (a .0 .now) .answer);
-  leaves = λ κs a. (perform (asked (a .1 .0) (a .1 .1 .0)) (a .0 .now) .table, (tt, (tt, tt)));
-  meets = λ w κs a g p. both-facts w (at called promised w κs a .requires g) _ _ (answer-said (asked (a .1 .0) (a .1 .1 .0)) (a .0 .now)) refl;
-}
+the-rules =
+    by-facts called _ (_ ∷ []) _ (λ κs a. unsaid (perform (asked (a .1 .0) (a .1 .1 .0)) (a .0 .now) .answer))
+    (λ κs a. (perform (asked (a .1 .0) (a .1 .1 .0)) (a .0 .now) .table, (tt, (tt, tt))))
+    (λ κs a p. (answer-said (asked (a .1 .0) (a .1 .1 .0)) (a .0 .now), refl))
 
 -- ---- a machine at an input, the run lying somewhere
 pub record Input : Type 0 where
@@ -114,38 +104,17 @@ answer m p x = m .gives (p .lifetimes) (lent p x)
 abbrev pub left : Machine → Place → Input → Table
 left m p x = m .leaves (p .lifetimes) (lent p x) .0
 
--- ---- any two agree: the contract holds of both in the closed model, and leaves no choice
-module _ (p : Place) (x : Input) where
-  abbrev κs : Lfts 1
-  κs = p .lifetimes
-
-  abbrev a : Args (called .signature) κs
-  a = lent p x
-
-  abbrev ensured : Machine → Pr w₀
-  ensured m = at called promised w₀ κs a .ensures tt (m .gives κs a) (atExit called κs a (m .leaves κs a))
-
-  holds : (m : Machine) → ent (w₀ .𝓤) (emp (w₀ .𝓤)) (ensured m)
-  holds m =
-      via (w₀ .𝓤) (at called promised w₀ κs a .requires tt) (unique.perform .asks w₀ κs a tt) (m .meets w₀ κs a tt (x .passed))
-
-  agree : (m n : Machine) → ent (w₀ .𝓤) (emp (w₀ .𝓤)) (fact (w₀ .𝓤) ((m .gives κs a ≡ n .gives κs a) × (m .leaves κs a ≡ n .leaves κs a)))
-  agree m n =
-      via (w₀ .𝓤) (sep (w₀ .𝓤) (emp (w₀ .𝓤)) (emp (w₀ .𝓤))) (emp∗ (w₀ .𝓤) (emp (w₀ .𝓤)))
-      (via (w₀ .𝓤) (sep (w₀ .𝓤) (ensured m) (ensured n)) (mono∗ (w₀ .𝓤) (holds m) (holds n))
-      (unique.perform .only w₀ κs a tt tt (m .gives κs a) (n .gives κs a) (m .leaves κs a) (n .leaves κs a)))
-
--- so each does as the rules do; numbers that are merely equal are equal
+-- ---- each does as the rules do; numbers that are merely equal are equal
 module _ (m : Machine) (p : Place) (x : Input) where
   pub answers-as : said (answer m p x) ≡ perform (asks x) (x .run) .answer
   unfolding the-rules
   answers-as =
-      ∥∥₁-elim (agree p x m the-rules .apply (w₀ .𝓤 .one) tt) (List·isSet ℕ-set _ _)
-      (λ h. ap said (h .0 .0) ∙ answer-said (asks x) (x .run))
+      ∥∥₁-elim (agree unique.perform m the-rules (p .lifetimes) (lent p x) (x .passed) tt) (List·isSet ℕ-set _ _)
+      (λ h. ap said (h .0) ∙ answer-said (asks x) (x .run))
 
   pub leaves-as : left m p x ≡ perform (asks x) (x .run) .table
   unfolding the-rules
-  leaves-as = ∥∥₁-elim (agree p x m the-rules .apply (w₀ .𝓤 .one) tt) (List·isSet ℕ-set _ _) (λ h. ap (λ l. l .0) (h .0 .1))
+  leaves-as = ∥∥₁-elim (agree unique.perform m the-rules (p .lifetimes) (lent p x) (x .passed) tt) (List·isSet ℕ-set _ _) (λ h. ap (λ l. l .0) (h .1))
 
 -- ---- the machines that must be shut out
 module _ (m : Machine) (p : Place) where

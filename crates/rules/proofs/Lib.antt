@@ -48,5 +48,7 @@ pub mod Decimal
 pub mod Lengths
 pub mod Lines
 pub mod Sessions
+pub mod Small
+pub mod Bytes
 pub mod Promises
 pub mod RoundTrip

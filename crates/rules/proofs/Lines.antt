@@ -144,6 +144,14 @@ word-accepted (suc (suc (suc (suc (suc (suc (suc zero))))))) q = absurd (let e :
 word-accepted (suc (suc (suc (suc (suc (suc (suc (suc n)))))))) q = absurd (let e : _≡_ {A = ℕ} 0 8 = ap length q in omega arith)
 
 -- ---- a line
+-- two lines that are equal have equal places, words and values
+pub line-parts : (i k n w : ℕ) (vs ws : List ℕ) → lineOf i (n ∷ vs) ≡ lineOf k (w ∷ ws) → (i ≡ k) × (wordOf n ≡ wordOf w) × (vs ≡ ws)
+unfolding lineOf
+line-parts i k n w vs ws e =
+    let p = parted {s = 32} {r = 32} (decimal-plain i) (decimal-plain k) (omega arith) (omega arith) e in
+    let v = before-values vs ws (word-plain n) (word-plain w) (p .back) in
+    (decimal-injective i k (p .front), v .0, spaced-injective vs ws (v .1))
+
 -- a line that says that p was accepted by q is the line of that answer, at that place
 pub line-accepted : (i k p q : ℕ) (a : List ℕ) → lineOf i a ≡ lineOf k (accepted p q) → (i ≡ k) × (a ≡ accepted p q)
 unfolding lineOf
@@ -151,10 +159,9 @@ line-accepted i k p q [] e =
     let z : 0 ≡ length (decimal k) + suc (length (wordOf 3 ++ spaced (p ∷ q ∷ []))) = ap length e ∙ length-append (decimal k) _ in
     absurd (omega arith)
 line-accepted i k p q (n ∷ vs) e =
-    let w = parted {s = 32} {r = 32} (decimal-plain i) (decimal-plain k) (omega arith) (omega arith) e in
-    let v = before-values vs (p ∷ q ∷ []) (word-plain n) (word-plain 3) (w .back) in
-    let z : n ≡ 3 = word-accepted n (v .0) in
-    (decimal-injective i k (w .front), rw (z, spaced-injective vs (p ∷ q ∷ []) (v .1)) refl)
+    let v = line-parts i k n 3 vs (p ∷ q ∷ []) e in
+    let z : n ≡ 3 = word-accepted n (v .1) in
+    (v .0, rw (z, v .2) refl)
 
 -- ---- a text of lines
 -- the lines of answers, from a place on

@@ -1,8 +1,8 @@
 -- What stands behind a line of a session: a file that is played begins with its set-up, its other records are requests, and the player's
 -- answers are those of `run`, so the line of an acceptance is that of one request, after the requests before it. Assumes nothing.
-use Prim.Native.Nat.{ℕ, zero, suc, _+_, _≤_}
+use Prim.Native.Nat.{ℕ, zero, suc, _+_, _*_, _≤_}
 use native.Mathlib.Omega.{arith}
-use mathlib.Core.Path.{_≡_, refl, sym, ap}
+use mathlib.Core.Path.{_≡_, refl, sym, ap, _∙_}
 use mathlib.Core.Logic.{_⊎_, inl, inr}
 use mathlib.Core.Bool.{Bool, true, false}
 use mathlib.Core.List.{List, [], _∷_, _++_, List·Memᴰ, List·Memᴰ·cases-cons, List·Memᴰ·not-nil, List·Memᴰ·eq-of-singleton}
@@ -15,10 +15,11 @@ use Rattle.rules.specs.WellFormed.{wellFormed}
 use Rattle.rules.specs.Outcome.{Outcome, gives, need, ready, accepted, refused}
 use Rattle.rules.specs.Machine.{Request, SetUp, Asks, step, setUp, perform, run, tableAfter}
 use Rattle.rules.specs.Session.{Reading, found, malformed, ended, Item, item, broken, readRecord, standsRight, itemsBy, itemsFrom, itemsOf, requestsIn, fileFits}
-use Rattle.rules.specs.Player.{lineOf, linesFrom, cutLines, playersTable, answersTo, played}
+use Rattle.rules.specs.Player.{ascii, wordOf, lineOf, linesFrom, cutLines, playersTable, answersTo, played}
 use Rattle.rules.specs.Open.{everything}
 use Rattle.rules.proofs.Keeps.{Kept, refuses, drops, does, kept-step, not-formed}
-use Rattle.rules.proofs.Lines.{numbered, line-accepted, Worded, worded-none, worded-more, lines-cut}
+use Rattle.rules.proofs.AfterSetUp.{set-up-head}
+use Rattle.rules.proofs.Lines.{numbered, line-parts, line-accepted, Worded, worded-none, worded-more, lines-cut}
 
 -- ---- what a file holds
 -- past the first record there are requests alone, up to the end or to a malformed record
@@ -190,3 +191,44 @@ module _ (file : List ℕ) (k v u : ℕ) where
           → Behind file k v u
       go true i = behind-items refl (begins file) i
       go false i = absurd (not-accepted 0 k v u 7 (11 ∷ []) (λ z. omega arith) (List·Memᴰ·eq-of-singleton (rw one-line at i)))
+
+-- ---- the line of a set-up
+-- it says two for each participant
+ready-answer : (n m c u : ℕ) → lineOf 1 (setUp n m c playersTable .answer) ≡ lineOf 1 (ready u) → u ≡ 2 * n
+unfolding setUp need wordOf ascii
+ready-answer n m c u = go (setUpFits playersTable n m c) refl
+  where
+    s : Table
+    s = setUpTable playersTable n m c
+
+    go : (b : Bool) → setUpFits playersTable n m c ≡ b
+        → lineOf 1 ((if b then gives (ready (used s)) s else gives (refused 2) playersTable) .answer) ≡ lineOf 1 (ready u)
+        → u ≡ 2 * n
+    go true f e =
+        sym (ap (λ (l : List ℕ). getD l 0 0) (line-parts 1 1 1 1 (used s ∷ []) (u ∷ []) e .2)) ∙ set-up-head n m c playersTable f .3
+    go false f e = let z : _≡_ {A = ℕ} 7 5 = ap length (line-parts 1 1 7 1 (2 ∷ []) (u ∷ []) e .1) in absurd (omega arith)
+
+module _ (n m c u : ℕ) where
+  ready-items : {is more : List Item} → is ≡ item (SetUp n m c) ∷ more → Begins is
+      → getD (cutLines (linesFrom 1 (answersTo is playersTable))) 0 [] ≡ lineOf 1 (ready u)
+      → u ≡ 2 * n
+  unfolding answersTo perform
+  ready-items q empty e = cc
+  ready-items q broken-first e = cc
+  ready-items q (sets-up k l d w) e =
+      let z : k ≡ n = cc in
+      ready-answer k l d u (rw (lines-cut 1 (set-up-worded k l d playersTable (requests-worded (setUp k l d playersTable .table) w))) at e)
+      ∙ rw z refl
+
+  -- a file that sets up n participants, and `1 ready u`
+  pub ready-line : (file : List ℕ) {more : List Item} → itemsOf file ≡ item (SetUp n m c) ∷ more
+      → getD (cutLines (played file)) 0 [] ≡ lineOf 1 (ready u)
+      → u ≡ 2 * n
+  unfolding played
+  ready-line file q = go (fileFits file)
+    where
+      go : (b : Bool)
+          → getD (cutLines (if b then linesFrom 1 (answersTo (itemsOf file) playersTable) else lineOf 0 (refused 11))) 0 [] ≡ lineOf 1 (ready u)
+          → u ≡ 2 * n
+      go true e = ready-items q (begins file) e
+      go false e = let z = line-parts 0 1 7 1 (11 ∷ []) (u ∷ []) (rw one-line at e) .0 in absurd (omega arith)
