@@ -17,10 +17,11 @@ pub mod table;
 mod shown;
 #[cfg(test)]
 mod tests;
+pub mod wide;
 
 pub use commands::{act, refusal, step, Answer, Record, Request};
 pub use formed::well_formed;
-pub use player::{play, play_call, play_call_in, play_in, Mode, PLAYER_WORDS};
+pub use player::{play, play_call, play_call_in, play_in, put_lines, Mode, PLAYER_WORDS};
 pub use session::{read_record, write_record, Read, Written};
 pub use single::single;
 pub use table::set_up;

@@ -173,3 +173,17 @@ pub fn play_call_in(session: &[u8], out: &mut [u8], mode: Mode) -> u32 {
         }
     }
 }
+
+/// Puts lines at the start of a lent output, as the call does.
+pub fn put_lines(lines: &[u8], out: &mut [u8]) -> u32 {
+    match (out.get_mut(..lines.len()), u32::try_from(lines.len())) {
+        (Some(start), Ok(written)) => {
+            start.copy_from_slice(lines);
+            written
+        }
+        _ => {
+            out.fill(0);
+            DOES_NOT_FIT
+        }
+    }
+}

@@ -1,5 +1,5 @@
 -- `formed::head_fits` meets its contract: the tests are the rule's, in its order. Assumes nothing.
-use mathlib.Core.Path.{refl, sym, _∙_}
+use mathlib.Core.Path.{refl}
 use borrow.Author.Tests.{eq-eqb, ne-eqb}
 use borrow.Author.Needs.{needs}
 use Rattle.rules.specs.Table.{thisVersion}

@@ -29,14 +29,14 @@ impl Bench<'_> {
         self.ask(request).map(|_| ())
     }
 
-    fn faulty_request(&mut self) -> Option<()> {
+    pub fn faulty_request(&mut self) -> Option<()> {
         let request = self.faulty();
         self.ask(request).map(|_| ())
     }
 
     /// A run from its start to acceptance, now and then with something in
     /// between or with each message delivered twice.
-    fn honest_run(&mut self) -> Option<()> {
+    pub fn honest_run(&mut self) -> Option<()> {
         let u = self.honest_one();
         let v = match self.random.one_in(4) {
             true => self.dishonest_one(),
@@ -58,7 +58,7 @@ impl Bench<'_> {
 
     /// Lowe's course: a message for a dishonest participant is sealed anew
     /// for an honest one, whose answer goes back.
-    fn relay(&mut self) -> Option<()> {
+    pub fn relay(&mut self) -> Option<()> {
         let a = self.honest_one();
         let m = self.dishonest_one();
         let b = self.honest_other(a);
@@ -74,7 +74,7 @@ impl Bench<'_> {
 
     /// A first message of the adversary's making; if the answer can be
     /// opened, then the third message too.
-    fn first_message(&mut self) -> Option<()> {
+    pub fn first_message(&mut self) -> Option<()> {
         let r = self.honest_one();
         let s = match self.random.one_in(3) {
             true => self.other_than(r),
@@ -103,7 +103,7 @@ impl Bench<'_> {
 
     /// A second message of three or four elements of the adversary's making,
     /// in answer to an honest start with a dishonest participant.
-    fn second_message(&mut self) -> Option<()> {
+    pub fn second_message(&mut self) -> Option<()> {
         let r = self.honest_one();
         let m = self.dishonest_one();
         let sent = self.post(Request::Start(r, m))?;
@@ -142,7 +142,7 @@ impl Bench<'_> {
     }
 
     /// A sent ciphertext in a new outer list with other things around it.
-    fn rewrap(&mut self) -> Option<()> {
+    pub fn rewrap(&mut self) -> Option<()> {
         let last = self.sent.last()?;
         let &(from, to, handle) = match self.random.one_in(2) {
             true => last,
@@ -162,7 +162,7 @@ impl Bench<'_> {
 
     /// Lists of four copies, each of the one before, until one is too long;
     /// then lists near the greatest length, and ciphertexts of them.
-    fn grow(&mut self) -> Option<()> {
+    pub fn grow(&mut self) -> Option<()> {
         let mut term = self.something()?;
         while let Some(longer) = self.gain(list_of(&[term; 4])) {
             term = longer;
@@ -202,7 +202,7 @@ impl Bench<'_> {
 
     /// A first message whose x1 is so long that the answer just fits or just
     /// doesn't: 8, 34, 138, 554, 2218, 3882 and 4064 are the lengths.
-    fn longest_first_message(&mut self) -> Option<()> {
+    pub fn longest_first_message(&mut self) -> Option<()> {
         let r = self.honest_one();
         let s = self.other_than(r);
         let nonce = self.gain(Request::Nonce)?;
@@ -222,7 +222,7 @@ impl Bench<'_> {
     }
 
     /// New entries until few or none are left, then a start.
-    fn fill(&mut self) -> Option<()> {
+    pub fn fill(&mut self) -> Option<()> {
         let spare = self.random.between(0, 5);
         self.leave(spare)?;
         let u = self.honest_one();

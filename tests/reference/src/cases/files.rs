@@ -83,7 +83,7 @@ fn session(random: &mut Random) -> Vec<Vec<u8>> {
     records
 }
 
-fn joined(records: &[Vec<u8>]) -> Vec<u8> {
+pub fn joined(records: &[Vec<u8>]) -> Vec<u8> {
     [&[1], records.concat().as_slice()].concat()
 }
 
@@ -97,7 +97,7 @@ fn small(random: &mut Random) -> (Vec<u8>, &'static str) {
 }
 
 /// Damage that needn't know where the records lie.
-fn damaged_bytes(mut bytes: Vec<u8>, random: &mut Random) -> (Vec<u8>, &'static str) {
+pub fn damaged_bytes(mut bytes: Vec<u8>, random: &mut Random) -> (Vec<u8>, &'static str) {
     match random.below(7) {
         0..=1 => {
             bytes.truncate(random.below(bytes.len()));
@@ -122,7 +122,7 @@ fn damaged_bytes(mut bytes: Vec<u8>, random: &mut Random) -> (Vec<u8>, &'static 
 }
 
 /// Damage of one record, or of the order of records.
-fn damaged_records(mut records: Vec<Vec<u8>>, random: &mut Random) -> (Vec<u8>, &'static str) {
+pub fn damaged_records(mut records: Vec<Vec<u8>>, random: &mut Random) -> (Vec<u8>, &'static str) {
     let place = random.below(records.len());
     let what = match random.below(9) {
         0..=4 => damage(&mut records[place], random),
@@ -182,7 +182,7 @@ fn stretched(record: &[u8], random: &mut Random) -> Vec<u8> {
     record
 }
 
-fn refused_set_up(random: &mut Random) -> Record {
+pub fn refused_set_up(random: &mut Random) -> Record {
     let (n, mask, capacity) = good_set_up(random, 40);
     match random.below(3) {
         0 => Record::SetUp(*random.pick(&[0, 1, 9, 259]), 1, capacity),

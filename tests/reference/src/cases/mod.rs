@@ -1,14 +1,14 @@
 //! Seeded random cases for comparison with another machine, as text.
 
 mod attacks;
-mod bench;
-mod files;
+pub(crate) mod bench;
+pub(crate) mod files;
 mod moves;
 mod random;
-mod records;
-mod sessions;
-mod singles;
-mod tables;
+pub(crate) mod records;
+pub(crate) mod sessions;
+pub(crate) mod singles;
+pub(crate) mod tables;
 mod text;
 
 pub use random::Random;

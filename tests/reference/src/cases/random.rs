@@ -7,6 +7,13 @@ impl Random {
         Self(seed)
     }
 
+    /// A source of its own for each round of a seed.
+    pub fn of_round(seed: u64, round: u64) -> Self {
+        let mut start = Self(seed);
+        let mixed = start.next() ^ round.wrapping_mul(0xD134_2543_DE82_EF95);
+        Self(mixed)
+    }
+
     fn next(&mut self) -> u64 {
         self.0 = self.0.wrapping_add(0x9E37_79B9_7F4A_7C15);
         let mut mixed = self.0;

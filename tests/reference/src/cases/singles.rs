@@ -44,7 +44,7 @@ pub fn case(random: &mut Random, tally: &mut Tally) -> String {
 }
 
 /// A set-up with one number at or over its bound, and a run long enough.
-fn set_up_at_bounds(random: &mut Random) -> (Vec<u16>, Vec<u8>) {
+pub fn set_up_at_bounds(random: &mut Random) -> (Vec<u16>, Vec<u8>) {
     let (n, mask, capacity) = *random.pick(&[
         (0, 0, 16),
         (1, 1, 16),
@@ -81,7 +81,7 @@ fn lent_table(random: &mut Random) -> Vec<u16> {
 }
 
 /// Mostly just one record that suits the table.
-fn lent_bytes(run: &[u16], random: &mut Random) -> Vec<u8> {
+pub fn lent_bytes(run: &[u16], random: &mut Random) -> Vec<u8> {
     let mut bytes = record_bytes(suiting_record(run, random));
     match random.below(16) {
         0 => bytes.push(random.byte()),

@@ -44,7 +44,7 @@ pub fn reached_table(random: &mut Random) -> Vec<u16> {
 }
 
 /// A request that isn't refused if the table is taken as it is.
-fn telling_request(run: &[u16], random: &mut Random) -> Request {
+pub fn telling_request(run: &[u16], random: &mut Random) -> Request {
     let sent = outer_lists(run);
     if random.one_in(3) {
         let taken = taken_deliveries(run, &sent);
@@ -89,7 +89,7 @@ fn taken_deliveries(run: &[u16], sent: &[(u16, u16, u16)]) -> Vec<Request> {
         .collect()
 }
 
-fn tamper(run: &mut Vec<u16>, random: &mut Random) -> &'static str {
+pub fn tamper(run: &mut Vec<u16>, random: &mut Random) -> &'static str {
     match random.below(50) {
         0..=9 => "alone",
         10..=15 => alter(run, 0..HEAD, random, "head"),
@@ -414,7 +414,7 @@ fn append_long(run: &mut [u16], random: &mut Random) -> &'static str {
 
 /// Takes the last entry away, with all counts in agreement. If it is a key
 /// this breaks the table.
-fn drop_last(run: &mut [u16], _: &mut Random) -> &'static str {
+pub fn drop_last(run: &mut [u16], _: &mut Random) -> &'static str {
     run[USED] -= 1;
     let gone = row_at(used(run)) + HANDLES;
     for knower in 0..KNOWERS {

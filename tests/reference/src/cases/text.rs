@@ -42,7 +42,16 @@ pub struct Tally(BTreeMap<String, u64>);
 
 impl Tally {
     pub fn add(&mut self, label: &str) {
-        *self.0.entry(label.to_owned()).or_default() += 1;
+        self.add_many(label, 1);
+    }
+
+    pub fn add_many(&mut self, label: &str, times: u64) {
+        match self.0.get_mut(label) {
+            Some(count) => *count += times,
+            None => {
+                self.0.insert(label.to_owned(), times);
+            }
+        }
     }
 
     /// Counts an answer by itself and together with what was asked.
