@@ -8,7 +8,7 @@ use lib.ListN.{length, drop, replicate, getD, set}
 use lib.Seq.{drop-length, sets-eq}
 use Rattle.rules.specs.Table.{Table}
 use Rattle.rules.specs.Session.{readRecord}
-use Rattle.rules.specs.Player.{played}
+use Rattle.rules.specs.Player.{played, mostBytes}
 use Rattle.rules.specs.Calls.{tooShort, playInto, keeps, performs, performRead, performInto}
 use Rattle.rules.specs.Meaning.{asked}
 use Rattle.rules.specs.declared.Handle.{Handle}
@@ -16,7 +16,6 @@ use Rattle.rules.specs.declared.Command.{Command}
 use Rattle.session.specs.Session.{readAs}
 use Rattle.session.specs.declared.Step.{Step}
 use Rattle.session.specs.declared.Step.the-variants.{Record as Recordˢ, End, Malformed}
-use Rattle.player.specs.Known.{mostBytes}
 use Rattle.text.specs.Put.{Put}
 use Rattle.text.proofs.Putting.{put-length, whole-new, whole-next, next-fits, next-past}
 

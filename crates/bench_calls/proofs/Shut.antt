@@ -20,14 +20,13 @@ use Rattle.rules.specs.Choice.{_and_, every}
 use Rattle.rules.specs.Outcome.{ready, sent, accepted, parsed, refused}
 use Rattle.rules.specs.Machine.{Request, Start, Deliver, Parse, Record, SetUp, Asks}
 use Rattle.rules.specs.Session.{fileVersion, recordBytes, Item, item, itemsOf}
-use Rattle.rules.specs.Player.{ascii, digits, decimal, wordOf, spaced, lineOf, linesFrom, cutLines, played}
+use Rattle.rules.specs.Player.{ascii, digits, decimal, wordOf, spaced, lineOf, linesFrom, cutLines, played, mostBytes}
 use Rattle.rules.specs.Calls.{playInto}
 use Rattle.rules.specs.Open.{everything}
 use Rattle.rules.proofs.Logic.{and-left, and-right}
 use Rattle.rules.proofs.Lines.{numbered}
 use Rattle.rules.proofs.Sessions.{ready-line}
 use Rattle.rules.proofs.Bytes.{lines-within}
-use Rattle.player.specs.Known.{mostBytes}
 use Rattle.bench_calls.proofs.Unique as unique
 use Rattle.bench_calls.proofs as own
 
@@ -62,7 +61,7 @@ bytes-at (x ∷ xs) e (suc i) = bytes-at xs (and-right (ltb x 256) _ e) i
 
 -- the contract's bound is one for every file of bytes, whoever plays it
 bounded : (file out : List ℕ) → canBePassed file out ≡ true → length (played file) ≤ mostBytes
-unfolding canBePassed mostBytes
+unfolding canBePassed
 bounded file out e = lines-within file (bytes-at file (and-left (areBytes file) _ e))
 
 -- there is one: the rules

@@ -3,10 +3,9 @@ ghost use mathlib.Core.Path.{_≡_};
 ghost use mathlib.Core.List.{_++_};
 ghost use lib.ListN.{length, replicate, drop};
 ghost use Prim.Native.Nat.{_≤_};
-ghost use Rattle.rules.specs.Player.{played};
+ghost use Rattle.rules.specs.Player.{played, mostBytes};
 ghost use Rattle.rules.specs.Calls.{playInto, performInto, fourNumbers};
 ghost use Rattle.rules.specs.Meaning.{said};
-ghost use Rattle.player.specs.Known.{mostBytes};
 use rules::Answer;
 use session::Step;
 

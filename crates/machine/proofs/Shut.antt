@@ -28,7 +28,8 @@ use Rattle.rules.specs.declared.Command.the-variants.{SetUp, Start, Deliver, St
 use Rattle.rules.proofs.Logic.{and-left, and-right}
 use Rattle.rules.proofs.Formed.{knower-at}
 use Rattle.rules.proofs.Meaning.{unsaid, said-injective}
-use Rattle.rules.proofs.Answers.{answer-said, ready-counts}
+use Rattle.rules.proofs.Answers.{answer-said}
+use Rattle.rules.proofs.Ready.{ready-counts}
 use Rattle.commands.specs.Beside.{handleNumbers}
 use Rattle.machine.proofs.Unique as unique
 use Rattle.machine.proofs as own

@@ -1,11 +1,10 @@
--- How playing goes on from record to record: the lines that are done and those that are left are always the same ones together, and no line
--- has more than 31 bytes. Assumes nothing.
-use Prim.Native.Nat.{ℕ, zero, suc, _+_, _*_, _≤_, _<_}
+-- How playing goes on from record to record: the lines that are done and those that are left are always the same ones together. Assumes nothing.
+use Prim.Native.Nat.{ℕ, zero, suc, _+_, _≤_, _<_}
 use native.Mathlib.Omega.{arith}
 use mathlib.Core.Path.{_≡_, refl, sym, _∙_}
 use mathlib.Core.Bool.{true, false}
 use mathlib.Core.List.{List, [], _∷_, _++_, append-assoc, append-nil}
-use lib.ListN.{length, length-append}
+use lib.ListN.{length}
 use Rattle.rules.specs.Table.{Table}
 use Rattle.rules.specs.Outcome.{refused}
 use Rattle.rules.specs.Machine.{perform}
@@ -18,7 +17,6 @@ use Rattle.rules.proofs.RoundTrip.{reads-end, reads-on}
 use Rattle.session.specs.Session.{readAs}
 use Rattle.session.specs.declared.Step.{Step}
 use Rattle.session.specs.declared.Step.the-variants.{Record as Recordˢ, End, Malformed}
-use Rattle.player.specs.Known.{mostBytes}
 
 -- ---- what is left of a file
 -- from record number `place`, which stands at a position, on: with the lines that are done it makes all of them
@@ -90,14 +88,3 @@ module _ {file all : List ℕ} {at place : ℕ} {t : Table} {done : List ℕ} wh
                 append-assoc done (lineOf place (perform (asked c hs) t .answer)) (linesFrom (place + 1) (answersTo (itemsFrom (o .0) file (place + 1) next) (perform (asked c hs) t .table)))
                 ∙ rw (is-found, ← b) at (o .2);
           }
-
--- ---- how many bytes the lines have
--- a record before the position has at least 3 bytes, and its line at most 31
-pub all-within : {all : List ℕ} (done more : List ℕ) (size at : ℕ) → size ≤ 65536 → at < size → 3 * length done + 31 ≤ 31 * at → length more ≤ 31
-    → done ++ more ≡ all → length all ≤ mostBytes
-unfolding mostBytes
-all-within done more size at s h d m e = rw (← e, length-append done more) (omega arith)
-
-pub done-within : {all : List ℕ} (done : List ℕ) (size at : ℕ) → size ≤ 65536 → at ≤ size + 1 → 3 * length done + 31 ≤ 31 * at → done ≡ all → length all ≤ mostBytes
-unfolding mostBytes
-done-within done size at s h d e = rw (← e) (omega arith)

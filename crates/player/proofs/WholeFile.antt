@@ -4,15 +4,13 @@ use native.Mathlib.Omega.{arith}
 use mathlib.Core.Path.{_≡_, refl}
 use mathlib.Core.Bool.{true, false}
 use mathlib.Core.List.{List}
-use borrow.Author.Tests.{le-leb, lt-leb, leb-true}
-use lib.Dec.{eqb, leb}
+use borrow.Author.Tests.{le-leb, lt-leb}
+use lib.Dec.{eqb}
 use lib.ListN.{length, getD, replicate}
 use Rattle.rules.specs.Table.{wordsFor, thisVersion, mostOf}
 use Rattle.rules.specs.Outcome.{refused}
 use Rattle.rules.specs.Session.{itemsOf, fileFits, fileVersion, longestFile}
 use Rattle.rules.specs.Player.{lineOf, linesFrom, answersTo, playersTable, played}
-use Rattle.rules.proofs.Logic.{and-left, and-right}
-use Rattle.player.specs.Known.{mostBytes}
 
 -- ---- a whole file
 module _ (file : List ℕ) where
@@ -28,10 +26,6 @@ module _ (file : List ℕ) where
   unfolding fileFits longestFile fileVersion
   file-version l h = rw (le-leb 1 (length file) l, le-leb (length file) 65536 h) refl
 
-  pub fits-short : fileFits file ≡ true → length file ≤ 65536
-  unfolding fileFits longestFile
-  fits-short f = leb-true (length file) 65536 (and-left (leb (length file) 65536) _ (and-right (leb 1 (length file)) _ f))
-
   pub unplayed : fileFits file ≡ false → lineOf 0 (refused 11) ≡ played file
   unfolding played
   unplayed f = rw f refl
@@ -43,7 +37,3 @@ module _ (file : List ℕ) where
 pub zeros : replicate 8208 0 ≡ playersTable
 unfolding playersTable wordsFor thisVersion mostOf
 zeros = refl
-
-pub unplayed-within : length (lineOf 0 (refused 11)) ≤ 31 → length (lineOf 0 (refused 11)) ≤ mostBytes
-unfolding mostBytes
-unplayed-within h = omega arith

@@ -7,11 +7,11 @@ ghost use lib.ListN.{length};
 ghost use Rattle.rules.specs.WellFormed.{wellFormed};
 ghost use Rattle.rules.specs.Machine.{perform};
 ghost use Rattle.rules.specs.Session.{fileFits, standsRight, itemsOf};
-ghost use Rattle.rules.specs.Player.{linesFrom, answersTo, played};
+ghost use Rattle.rules.specs.Player.{linesFrom, answersTo, played, mostBytes};
 ghost use Rattle.rules.specs.Meaning.{said, asked};
 ghost use Rattle.rules.specs.declared.Handle.{Handle};
 ghost use Rattle.text.specs.Put.{Put};
-ghost use Rattle.player.specs.Known.{isSetUp, formedAfter, mostBytes};
+ghost use Rattle.player.specs.Known.{isSetUp, formedAfter};
 use rules::Answer;
 use rules::Command;
 use rules::Handle;
@@ -77,10 +77,8 @@ fn formed_after(formed: bool, a: Answer) -> bool
 
 // The lines of a file's records, on a table that isn't well formed until the set-up has made it so.
 fn records(file: &[u8], t: &mut [u16], out: &mut [u8]) -> usize
-    requires { ⌜ length (now file) ≤ 65536 ⌝ }
     requires { ⌜ wellFormed (now t) ≡ false ⌝ }
     ensures { λ r. ⌜ Put (now (out .entry)) 0 (linesFrom 1 (answersTo (itemsOf (now (file .entry))) (now (t .entry)))) (now (out .exit)) r ⌝ }
-    ensures { λ _. ⌜ length (linesFrom 1 (answersTo (itemsOf (now (file .entry))) (now (t .entry)))) ≤ mostBytes ⌝ }
 {
     let mut at: usize = 1;
     let mut place: usize = 1;

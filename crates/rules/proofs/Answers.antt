@@ -1,23 +1,20 @@
--- Every answer of the rules is one of the seven words with its values, so some value of the code's `Answer` says it; and `ready` counts the
--- used entries. True since a request ends in an answer of another word or in a refusal, and set-up alone is ready. Assumes nothing.
-use Prim.Native.Nat.{ℕ, _*_}
-use native.Mathlib.Omega.{arith}
-use mathlib.Core.Path.{_≡_, refl, ap}
+-- Every answer of the rules is one of the seven words with its values, so some value of the code's `Answer` says it. True since set-up ends in
+-- `ready` or a refusal, and a request in an answer of another word or in a refusal. Assumes nothing.
+use Prim.Native.Nat.{ℕ}
+use mathlib.Core.Path.{_≡_, refl}
 use mathlib.Core.Bool.{Bool, true, false}
 use mathlib.Core.List.{List, []}
 use lib.Dec.{eqb}
-use lib.ListN.{getD}
 use Rattle.rules.specs.Choice.{if_then_else_}
-use Rattle.rules.specs.Table.{Table, participants, used}
+use Rattle.rules.specs.Table.{Table}
 use Rattle.rules.specs.Terms.{Term}
 use Rattle.rules.specs.SetUp.{setUpFits}
-use Rattle.rules.specs.Outcome.{Outcome, ready, sent, accepted, dropped, handed, parsed, refused, need, needRoom, givesHandle}
+use Rattle.rules.specs.Outcome.{Outcome, sent, accepted, dropped, handed, parsed, refused, need, needRoom, givesHandle}
 use Rattle.rules.specs.Commands.{giveNew, giveFoundOrNew, store, newNonce, makeListOf, makeList, projectOf, project, encryptOf, encrypt, decryptOf, decrypt, parseOf, parse}
 use Rattle.rules.specs.Steps.{send, sendNamed, start, Message, first, second, third, none, answerFirst, answerSecond, answerMessage, deliverList, deliver}
 use Rattle.rules.specs.Machine.{Request, Start, Deliver, Store, Nonce, MakeList, Project, Encrypt, Decrypt, Parse, Record, SetUp, Asks, act, step, setUp, perform}
 use Rattle.rules.specs.Meaning.{said}
 use Rattle.rules.proofs.Meaning.{unsaid}
-use Rattle.rules.proofs.AfterSetUp.{set-up-answers, set-up-head}
 
 -- ---- what a request is answered
 pub data Reply : List ℕ → Type 0 where
@@ -96,25 +93,3 @@ pub answer-said : (r : Record) (t : Table) → said (unsaid (perform r t .answer
 unfolding perform setUp said
 answer-said (SetUp n m c) t = said-need (setUpFits t n m c) 2 t _ refl
 answer-said (Asks r) t = reply-said (step-replies r t)
-
--- ---- `ready`
-reply-not-ready : {a : List ℕ} {u : ℕ} → Reply a → a ≡ ready u → ⊥
-reply-not-ready {a} {u} r q = go r (ap (λ (l : List ℕ). getD l 0 0) q)
-  where
-    go : {b : List ℕ} → Reply b → getD b 0 0 ≡ 1 → ⊥
-    go sends z = omega arith
-    go accepts z = omega arith
-    go drops z = omega arith
-    go hands z = omega arith
-    go parses z = omega arith
-    go refuses z = omega arith
-
--- who answers `ready` has a table of so many used entries, two for each participant
-pub ready-counts : (r : Record) (t : Table) (u : ℕ) → perform r t .answer ≡ ready u
-    → (used (perform r t .table) ≡ u) × (2 * participants (perform r t .table) ≡ u)
-unfolding perform
-ready-counts (Asks r) t u q = absurd (reply-not-ready (step-replies r t) q)
-ready-counts (SetUp n m c) t u q =
-    let a = set-up-answers n m c t u q in
-    let h = set-up-head n m c t (a .0) in
-    rw (a .1, h .0, h .3, a .2) (refl, refl)

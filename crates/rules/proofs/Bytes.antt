@@ -14,7 +14,7 @@ use Rattle.rules.specs.Table.{Table, thisVersion, wordsFor}
 use Rattle.rules.specs.Outcome.{refused}
 use Rattle.rules.specs.Machine.{Record, perform}
 use Rattle.rules.specs.Session.{longestFile, fileFits, number, bodyLengths, isWithin, recordOf, Reading, found, malformed, ended, bodyNumber, readBody, readRecord, Item, item, broken, standsRight, itemsBy, itemsFrom, itemsOf}
-use Rattle.rules.specs.Player.{lineOf, linesFrom, playersTable, answersTo, played}
+use Rattle.rules.specs.Player.{lineOf, linesFrom, playersTable, answersTo, played, mostBytes}
 use Rattle.rules.specs.Meaning.{said}
 use Rattle.rules.specs.declared.Answer.the-variants.{Refused}
 use Rattle.rules.proofs.Logic.{and-left, and-right}
@@ -132,16 +132,16 @@ module _ (file : List ℕ) (bytes : (i : ℕ) → getD file i 0 < 256) where
         go ended e k ih = omega arith
 
   -- a file's whole output
-  pub lines-within : length (played file) ≤ 677215
-  unfolding played itemsOf
+  pub lines-within : length (played file) ≤ mostBytes
+  unfolding played itemsOf mostBytes
   lines-within = go (fileFits file) refl
     where
       go : (b : Bool) → fileFits file ≡ b
-          → length (if b then linesFrom 1 (answersTo (itemsOf file) playersTable) else lineOf 0 (refused 11)) ≤ 677215
+          → length (if b then linesFrom 1 (answersTo (itemsOf file) playersTable) else lineOf 0 (refused 11)) ≤ mostBytes
       go true f =
           let w = fits-lengths file f in
           let all = linesFrom 1 (answersTo (itemsOf file) playersTable) in
           let n : 3 * length all + 31 * 1 ≤ 31 * length file + 62 = bound-lines (w .1) (length file) 1 1 playersTable zeros-low (omega arith) (w .0) in
-          let r : length all ≤ 677215 = omega arith in
+          let r : length all ≤ mostBytes = omega arith in
           r
       go false f = omega (arith, line-broken 0 (omega arith))

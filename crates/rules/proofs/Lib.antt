@@ -26,6 +26,7 @@ pub mod KeyRows
 pub mod KeyHolders
 pub mod AfterSetUp
 pub mod Answers
+pub mod Ready
 pub mod SetUpFormed
 pub mod Reading
 pub mod Needs

@@ -10,7 +10,7 @@ use mathlib.Core.List.{List, [], _∷_, _++_, List·Memᴰ}
 use lib.ListN.{length, length-append}
 use borrow.Author.Tests.{eq-eqb, ne-eqb}
 use Rattle.rules.specs.Table.{Table, most, capacity, used, nextHandle, handle}
-use Rattle.rules.specs.Terms.{datum, nonce, list, ciphertext, blank, argumentsOf, publicKeyOf, datumLength, nonceLength, listLength, ciphertextLength, newEntry, findDatum, findList}
+use Rattle.rules.specs.Terms.{datum, nonce, list, ciphertext, blank, argumentsOf, publicKeyOf, datumLength, nonceLength, listLength, ciphertextLength, findDatum, findList}
 use Rattle.rules.specs.Handles.{grant, grantEach, holds, names, entryOf}
 use Rattle.rules.specs.Outcome.{Outcome, gives, sent}
 use Rattle.rules.specs.Steps.{Made, make, makeUnless, unlessFound, sealedLengths, send, namedLength, namedLengths, sendNamed}
@@ -41,8 +41,6 @@ pub record Posted (t : Table) (p q : ℕ) (known xs : List ℕ) (o : Outcome) : 
   pub is-ct : termIn (o .table) ct ≡ ciphertext (publicKeyOf q) plain
   pub is-plain : termIn (o .table) plain ≡ list xs
   pub names : entryOf (o .table) 0 handed ≡ outer
-  pub grew : used t < outer
-  pub is-last : outer ≡ used (o .table)
   pub to-zero : (e : ℕ) → Holds (o .table) 0 e → Holds t 0 e ⊎ (e ≡ outer)
   pub to-p : (e : ℕ) → Holds (o .table) p e → Holds t p e ⊎ List·Memᴰ e (known ++ (plain ∷ ct ∷ outer ∷ []))
   pub others : (k : ℕ) → k ≢ 0 → k ≢ p → Untouched k t (o .table)
@@ -214,8 +212,6 @@ module _ (t : Table) (sh : Shaped t) (p q : ℕ) (person : Person t p) (known xs
     is-plain = creates-stays made (grows-trans (sealed-creates .grows) (grows-trans (wrapped-creates .grows) done-after));
     names = new-named t sh (omega (arith, sh .keyed, person .low, person .high)) granted granted-grows (omega (arith, granted-used)) 0 (omega arith)
         (granted-silent 0 not-zero) (wrapped .entry) (omega (arith, wrapped-entry, made .grows .more)) (omega (arith, granted-used, wrapped-entry));
-    grew = omega (arith, wrapped-entry, made .grows .more);
-    is-last = omega (arith, wrapped-entry, grant-used granted 0 (wrapped .entry) (wrapped-creates .uses .low), granted-used);
     to-zero = zero-holds;
     to-p = sender-holds;
     others = λ k n m.
@@ -227,12 +223,9 @@ pub record Named (t : Table) (p q : ℕ) (known repeated : List ℕ) (o : Outcom
   pub new : ℕ
   pub name : ℕ
   pub posted : Posted t p q (known ++ (new ∷ name ∷ [])) (repeated ++ (new ∷ name ∷ [])) o
-  pub is-new : new ≡ newEntry t
-  pub is-next : new ≡ used t + 1
   pub is-fresh : termIn t new ≡ blank
   pub is-nonce : termIn (o .table) new ≡ nonce p q
   pub is-name : termIn (o .table) name ≡ datum p
-  pub name-real : 1 ≤ name
   pub count : used (o .table) ≡ used t + length (namedLengths t p repeated)
 
 module _ (t : Table) (sh : Shaped t) (p q : ℕ) (person : Person t p) (known repeated : List ℕ) (real : (x : ℕ) → List·Memᴰ x known → 1 ≤ x)
@@ -250,10 +243,6 @@ module _ (t : Table) (sh : Shaped t) (p q : ℕ) (person : Person t p) (known re
   fresh-entry : fresh .entry ≡ used t + 1
   unfolding fresh argumentsOf
   fresh-entry = make-entry t sh t (grows-refl t) (nonce p q) nonceLength (omega arith) (omega (arith, asked))
-
-  fresh-new : fresh .entry ≡ newEntry t
-  unfolding fresh make
-  fresh-new = refl
 
   fresh-creates : Creates t (nonce p q) fresh
   unfolding fresh argumentsOf
@@ -330,12 +319,9 @@ module _ (t : Table) (sh : Shaped t) (p q : ℕ) (person : Person t p) (known re
     new = fresh .entry;
     name = own .entry;
     posted = named-posted;
-    is-new = fresh-new;
-    is-next = fresh-entry;
     is-fresh = term-out t (fresh .entry) (omega (arith, fresh-entry));
     is-nonce = creates-stays fresh-creates (grows-trans (own-creates .grows) (grows-trans (inside-creates .grows) after));
     is-name = creates-stays own-creates (grows-trans (inside-creates .grows) after);
-    name-real = own-creates .uses .low;
     count = after-used;
   })
 

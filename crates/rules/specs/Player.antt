@@ -74,6 +74,11 @@ unfoldable pub played : List ℕ → List ℕ
 played file =
     if fileFits file then linesFrom 1 (answersTo (itemsOf file) playersTable) else lineOf 0 (refused 11)
 
+-- P4: how many bytes the lines of a file can have. A record has at least 3 bytes and a line at most 31: 31 for every 3 of the at most 65,534
+-- bytes before the last line's record, and 31
+unfoldable pub mostBytes : ℕ
+mostBytes = 677215
+
 -- ---- P5: a text cut into its lines, each with its line feed
 unfoldable pub ontoFirst : ℕ → List (List ℕ) → List (List ℕ)
 ontoFirst c [] = (c ∷ []) ∷ []

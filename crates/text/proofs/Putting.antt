@@ -6,8 +6,7 @@ use native.Mathlib.Numerals.{add-one}
 use native.Mathlib.Decide.{decLe}
 use native.Mathlib.Omega.{arith}
 use mathlib.Core.Path.{_≡_, refl, sym, ap, _∙_}
-use mathlib.Core.Logic.{_⊎_, inl, inr}
-use mathlib.Core.List.{List, [], _∷_, _++_, append-assoc, List·Memᴰ, List·Memᴰ·not-nil, List·Memᴰ·cases-cons}
+use mathlib.Core.List.{List, [], _∷_, _++_, append-assoc}
 use lib.ListN.{length, take, drop, getD, set, length-append}
 use lib.Seq.{sets, take-suc, set-out, length-sets, sets-eq}
 use Rattle.rules.specs.Player.{decimal, wordOf, spaced, lineOf}
@@ -107,17 +106,6 @@ pub values-put :
     → Put a i (32 ∷ decimal v) b j → Put b j (spaced vs) c k → Put a i (spaced (v ∷ vs)) c k
 unfolding spaced
 values-put v vs p q = then p q
-
--- values below 65536, one more
-pub small-none : (v : ℕ) → List·Memᴰ v [] → v < 65536
-small-none v i = absurd (List·Memᴰ·not-nil i)
-
-pub small-more : (x : ℕ) (xs : List ℕ) → x < 65536 → ((v : ℕ) → List·Memᴰ v xs → v < 65536) → (v : ℕ) → List·Memᴰ v (x ∷ xs) → v < 65536
-small-more x xs h f v i = go (List·Memᴰ·cases-cons i)
-  where
-    go : (v ≡ x) ⊎ List·Memᴰ v xs → v < 65536
-    go (inl e) = omega arith
-    go (inr j) = f v j
 
 -- what it begins with, then its values
 pub line-put :

@@ -2,7 +2,7 @@
 // and the place given back is then one past the length.
 ghost use mathlib.Core.Path.{_≡_};
 ghost use mathlib.Core.List.{[], _∷_, _++_};
-ghost use Prim.Native.Nat.{_+_, _≤_, _<_, min};
+ghost use Prim.Native.Nat.{_+_, min};
 ghost use lib.ListN.{length};
 ghost use Rattle.rules.specs.Player.{space, decimal, spaced, lineOf};
 ghost use Rattle.rules.specs.Meaning.{said};
@@ -96,10 +96,9 @@ fn three_values(out: &mut [u8], at: usize, v: u16, w: u16, x: u16) -> usize
     two_values(out, after, w, x)
 }
 
-// The line of an answer to the record at a place. A file has fewer than 65,536 records, and then no line is longer than 31 bytes.
+// The line of an answer to the record at a place.
 pub fn line(out: &mut [u8], at: usize, place: usize, a: Answer) -> usize
     ensures { λ r. ⌜ Put (now (out .entry)) at (lineOf place (said a)) (now (out .exit)) r ⌝ }
-    ensures { λ _. ⌜ (place < 65536 → length (lineOf place (said a)) ≤ 31) ⌝ }
 {
     match a {
         Answer::Ready(u) => {

@@ -5,7 +5,7 @@ use native.Mathlib.Omega.{arith}
 use mathlib.Core.Path.{sym}
 use lib.ListN.{length}
 use lib.Seq.{length-take-le}
-use Rattle.player.specs.Known.{mostBytes}
+use Rattle.rules.specs.Player.{mostBytes}
 use Rattle.bench_calls.proofs.Calling.{always-fits}
 use borrow.Author.Needs.{needs}
 use Rattle.bench.proofs.main.Statement.{statement}

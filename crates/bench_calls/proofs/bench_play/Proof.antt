@@ -1,6 +1,6 @@
 -- `bench_calls::bench_play` meets its contract: the place after the lines says whether they fit, and their number is below the result's bound. Assumes nothing.
 use native.Mathlib.Omega.{arith}
-use Rattle.player.specs.Known.{mostBytes}
+use Rattle.rules.specs.Player.{mostBytes}
 use Rattle.text.proofs.Putting.{put-length}
 use Rattle.bench_calls.proofs.Calling.{fitting, over}
 use borrow.Author.Needs.{needs}

@@ -1,10 +1,9 @@
--- `player::records` meets its contract: after each record the lines that are done and those that are left are all of them, and no line has
--- more than 31 bytes. Assumes nothing.
-use Prim.Native.Nat.{ℕ, _+_, _*_, _-_, _≤_}
+-- `player::records` meets its contract: after each record the lines that are done and those that are left are all of them. Assumes nothing.
+use Prim.Native.Nat.{ℕ, _-_, _≤_}
 use native.Mathlib.Omega.{arith}
 use mathlib.Core.Path.{_≡_, refl, sym, _∙_}
 use mathlib.Core.List.{List, [], _++_}
-use lib.ListN.{length, length-append}
+use lib.ListN.{length}
 use borrow.Author.Needs.{needs}
 use borrow.Author.Tests.{not-true, not-false}
 use Rattle.rules.specs.WellFormed.{wellFormed}
@@ -14,20 +13,20 @@ use Rattle.rules.specs.Meaning.{said}
 use Rattle.text.specs.Put.{Put}
 use Rattle.text.proofs.Putting.{put-none, put-as, put-length, then}
 use Rattle.player.proofs.Knowing.{stays-known}
-use Rattle.player.proofs.Playing.{Left, begin, finish, at-end, at-malformed, onwards, misplaced, next-record, all-within, done-within}
+use Rattle.player.proofs.Playing.{Left, begin, finish, at-end, at-malformed, onwards, misplaced, next-record}
 use Rattle.player.proofs.records.Statement.{statement}
 use Rattle.player.proofs.records.Tie as tie
 
 abbrev Inv-loop : tie.InvT-loop
 Inv-loop file t₀ out₀ at₀ place₀ end₀ formed₀ t out at place end formed =
     (done : List ℕ) × Put out₀ 0 done out end × Left file (linesFrom 1 (answersTo (itemsOf file) t₀)) at place t done × (formed ≡ wellFormed t)
-    × (place ≤ at) × (at ≤ length file + 1) × (3 * length done + 31 ≤ 31 * at) × (length t ≡ length t₀)
+    × (place ≤ at) × (length t ≡ length t₀)
 
 abbrev μ-loop : tie.MeasureT-loop
 μ-loop file t₀ out₀ at₀ place₀ end₀ formed₀ t out at place end formed = length file - at
 
 loop-holds : tie.Need-loop-holds Inv-loop μ-loop
-loop-holds c = ([], put-none _, begin _ _, sym (c .before .before .before .pre .1), omega arith, omega arith, omega arith, refl)
+loop-holds c = ([], put-none _, begin _ _, sym (c .before .before .before .pre), omega arith, refl)
 
 read-record-requires : tie.Need-read-record-requires Inv-loop μ-loop
 read-record-requires c κs = search needs
@@ -42,10 +41,10 @@ line-requires : tie.Need-line-requires Inv-loop μ-loop
 line-requires c κs = search needs
 
 same-length : tie.Need-same-length Inv-loop μ-loop
-same-length c = c .before .before .before .before .before .before .before .before .before .before .before .before .loop .inv .7
+same-length c = c .before .before .before .before .before .before .before .before .before .before .before .before .loop .inv .5
 
 same-length-2 : tie.Need-same-length-2 Inv-loop μ-loop
-same-length-2 c = put-length (then (c .before .before .before .before .before .before .before .before .before .before .before .before .loop .inv .1) (c .before .before .line .ensures .0))
+same-length-2 c = put-length (then (c .before .before .before .before .before .before .before .before .before .before .before .before .loop .inv .1) (c .before .before .line .ensures))
 
 returns : tie.Need-returns Inv-loop μ-loop
 unfolding said
@@ -53,7 +52,7 @@ returns c =
     let l = c .before .before .before .before .before .before .before .before .before .before .before .before .loop .inv in
     let q = misplaced (c .before .before .before .before .before .before .before .before .before .before .before .loop-test .taken) (l .2) _ _ (c .before .before .before .before .before .before .before .before .before .before .read-record .ensures .0) (c .before .before .before .before .before .before .before .step .given .1) (sym (not-true _ (c .before .before .before .before .if1 .taken)) ∙ c .before .before .before .before .before .stands-right .ensures _) in
     let n = c .before .before .line .ensures in
-    (put-as q (then (l .1) (n .0)), all-within (l .0) _ _ _ (c .before .before .before .before .before .before .before .before .before .before .before .before .before .before .before .before .pre .0) (c .before .before .before .before .before .before .before .before .before .before .before .loop-test .taken) (l .6) (n .1 (omega (arith, l .4, c .before .before .before .before .before .before .before .before .before .before .before .loop-test .taken, c .before .before .before .before .before .before .before .before .before .before .before .before .before .before .before .before .pre .0))) q)
+    put-as q (then (l .1) n)
 
 perform-known-requires : tie.Need-perform-known-requires Inv-loop μ-loop
 perform-known-requires c κs = c .before .before .before .before .before .before .before .before .before .loop .inv .3
@@ -81,20 +80,18 @@ loop-again c =
     let n = c .before .before .line2 .ensures in
     let w = next-record h (l .2) _ _ e p (sym (not-false _ (c .before .before .before .before .before .before .before .before .before .if1 .left)) ∙ c .before .before .before .before .before .before .before .before .before .before .stands-right .ensures _) in (
       l .0 ++ _,
-      then (l .1) (n .0),
+      then (l .1) n,
       rw (k .0, k .1) w,
       rw (k .1) (c .before .before .before .before .formed-after .ensures ∙ rw (l .3, k .0) (stays-known _ _)),
       omega (arith, on, l .4),
-      omega (arith, on),
-      rw length-append (omega (arith, on, l .6, n .1 (omega (arith, l .4, h, c .before .before .before .before .before .before .before .before .before .before .before .before .before .before .before .before .before .before .before .before .before .pre .0)))),
-      omega (arith, c .before .before .before .before .before .before .before .perform-known .kept, l .7),
+      omega (arith, c .before .before .before .before .before .before .before .perform-known .kept, l .5),
     )
 
 enum-told : tie.Need-enum-told Inv-loop μ-loop
 enum-told c = search needs
 
 same-length-3 : tie.Need-same-length-3 Inv-loop μ-loop
-same-length-3 c = c .before .before .before .before .before .loop .inv .7
+same-length-3 c = c .before .before .before .before .before .loop .inv .5
 
 same-length-4 : tie.Need-same-length-4 Inv-loop μ-loop
 same-length-4 c = put-length (c .before .before .before .before .before .loop .inv .1)
@@ -103,7 +100,7 @@ returns-2 : tie.Need-returns-2 Inv-loop μ-loop
 returns-2 c =
     let l = c .before .before .before .before .before .loop .inv in
     let q = at-end (c .before .before .before .before .loop-test .taken) (l .2) _ _ (c .before .before .before .read-record .ensures .0) (c .enum-told .given .1) in
-    (put-as q (l .1), done-within (l .0) _ _ (c .before .before .before .before .before .before .before .before .before .pre .0) (l .5) (l .6) q)
+    put-as q (l .1)
 
 enum-told-2 : tie.Need-enum-told-2 Inv-loop μ-loop
 enum-told-2 c = search needs
@@ -112,10 +109,10 @@ line-requires-3 : tie.Need-line-requires-3 Inv-loop μ-loop
 line-requires-3 c κs = search needs
 
 same-length-5 : tie.Need-same-length-5 Inv-loop μ-loop
-same-length-5 c = c .before .before .before .before .before .before .before .before .before .loop .inv .7
+same-length-5 c = c .before .before .before .before .before .before .before .before .before .loop .inv .5
 
 same-length-6 : tie.Need-same-length-6 Inv-loop μ-loop
-same-length-6 c = put-length (then (c .before .before .before .before .before .before .before .before .before .loop .inv .1) (c .before .before .line3 .ensures .0))
+same-length-6 c = put-length (then (c .before .before .before .before .before .before .before .before .before .loop .inv .1) (c .before .before .line3 .ensures))
 
 returns-3 : tie.Need-returns-3 Inv-loop μ-loop
 unfolding said
@@ -123,10 +120,10 @@ returns-3 c =
     let l = c .before .before .before .before .before .before .before .before .before .loop .inv in
     let q = at-malformed (c .before .before .before .before .before .before .before .before .loop-test .taken) (l .2) _ _ (c .before .before .before .before .before .before .before .read-record .ensures .0) (c .before .before .before .before .enum-told2 .given .1) in
     let n = c .before .before .line3 .ensures in
-    (put-as q (then (l .1) (n .0)), all-within (l .0) _ _ _ (c .before .before .before .before .before .before .before .before .before .before .before .before .before .pre .0) (c .before .before .before .before .before .before .before .before .loop-test .taken) (l .6) (n .1 (omega (arith, l .4, c .before .before .before .before .before .before .before .before .loop-test .taken, c .before .before .before .before .before .before .before .before .before .before .before .before .before .pre .0))) q)
+    put-as q (then (l .1) n)
 
 same-length-7 : tie.Need-same-length-7 Inv-loop μ-loop
-same-length-7 c = c .before .loop .inv .7
+same-length-7 c = c .before .loop .inv .5
 
 same-length-8 : tie.Need-same-length-8 Inv-loop μ-loop
 same-length-8 c = put-length (c .before .loop .inv .1)
@@ -135,7 +132,7 @@ returns-4 : tie.Need-returns-4 Inv-loop μ-loop
 returns-4 c =
     let l = c .before .loop .inv in
     let q = finish (c .loop-test .left) (l .2) in
-    (put-as q (l .1), done-within (l .0) _ _ (c .before .before .before .before .before .pre .0) (l .5) (l .6) q)
+    put-as q (l .1)
 
 pub records-spec : {M : Type 1} → statement M
 records-spec =

@@ -1,11 +1,9 @@
 -- `text::line` meets its contract: each answer has its word and its values. Assumes nothing.
-use native.Mathlib.Omega.{arith}
 use mathlib.Core.List.{[], _∷_}
 use borrow.Author.Needs.{needs}
 use Rattle.rules.specs.Player.{ascii, wordOf}
 use Rattle.rules.specs.Meaning.{said}
-use Rattle.rules.proofs.Lengths.{line-short}
-use Rattle.text.proofs.Putting.{line-put, small-none, small-more}
+use Rattle.text.proofs.Putting.{line-put}
 use Rattle.text.proofs.line.Statement.{statement}
 use Rattle.text.proofs.line.Tie as tie
 
@@ -100,8 +98,7 @@ returns : tie.Need-returns
 unfolding said wordOf ascii
 returns c =
     let is = c .before .before .before .before .before .before .before .before .before .before .a .given .1 in
-    let k = c .before .before .before .before .before .before .before .before .before .known-told .given in
-    (rw is (line-put _ 1 (_ ∷ []) (c .before .before .before .before .before .before .head .ensures) (c .before .before .one-value .ensures)), λ low. line-short _ (c .before .before .before .before .before .before .before .before .before .before .before .before .before .args .a) low (rw is (small-more _ _ (omega arith) (small-more _ _ (omega (arith, k)) small-none))))
+    rw is (line-put _ 1 (_ ∷ []) (c .before .before .before .before .before .before .head .ensures) (c .before .before .one-value .ensures))
 
 same-length-2 : tie.Need-same-length-2
 same-length-2 c = search needs
@@ -110,8 +107,7 @@ returns-2 : tie.Need-returns-2
 unfolding said wordOf ascii
 returns-2 c =
     let is = c .before .before .before .before .before .before .before .before .before .before .a2 .given .1 in
-    let k = c .before .before .before .before .before .before .before .before .before .known-told2 .given in
-    (rw is (line-put _ 2 (_ ∷ _ ∷ _ ∷ []) (c .before .before .before .before .before .before .head2 .ensures) (c .before .before .three-values .ensures)), λ low. line-short _ (c .before .before .before .before .before .before .before .before .before .before .before .before .before .args .a) low (rw is (small-more _ _ (omega arith) (small-more _ _ (omega (arith, k)) (small-more _ _ (omega (arith, k)) (small-more _ _ (omega (arith, k)) small-none))))))
+    rw is (line-put _ 2 (_ ∷ _ ∷ _ ∷ []) (c .before .before .before .before .before .before .head2 .ensures) (c .before .before .three-values .ensures))
 
 same-length-3 : tie.Need-same-length-3
 same-length-3 c = search needs
@@ -120,8 +116,7 @@ returns-3 : tie.Need-returns-3
 unfolding said wordOf ascii
 returns-3 c =
     let is = c .before .before .before .before .before .before .before .before .before .before .a3 .given .1 in
-    let k = c .before .before .before .before .before .before .before .before .before .known-told3 .given in
-    (rw is (line-put _ 3 (_ ∷ _ ∷ []) (c .before .before .before .before .before .before .head3 .ensures) (c .before .before .two-values .ensures)), λ low. line-short _ (c .before .before .before .before .before .before .before .before .before .before .before .before .before .args .a) low (rw is (small-more _ _ (omega arith) (small-more _ _ (omega (arith, k)) (small-more _ _ (omega (arith, k)) small-none)))))
+    rw is (line-put _ 3 (_ ∷ _ ∷ []) (c .before .before .before .before .before .before .head3 .ensures) (c .before .before .two-values .ensures))
 
 same-length-4 : tie.Need-same-length-4
 same-length-4 c = search needs
@@ -130,7 +125,7 @@ returns-4 : tie.Need-returns-4
 unfolding said wordOf ascii
 returns-4 c =
     let is = c .before .before .before .before .before .before .before .before .before .enum-told .given .1 in
-    (rw is (line-put _ 4 [] (c .before .before .before .before .before .before .head4 .ensures) (c .before .before .no-value .ensures)), λ low. line-short _ (c .before .before .before .before .before .before .before .before .before .before .before .before .args .a) low (rw is (small-more _ _ (omega arith) small-none)))
+    rw is (line-put _ 4 [] (c .before .before .before .before .before .before .head4 .ensures) (c .before .before .no-value .ensures))
 
 same-length-5 : tie.Need-same-length-5
 same-length-5 c = search needs
@@ -139,8 +134,7 @@ returns-5 : tie.Need-returns-5
 unfolding said wordOf ascii
 returns-5 c =
     let is = c .before .before .before .before .before .before .before .before .before .before .a4 .given .1 in
-    let k = c .before .before .before .before .before .before .before .before .before .known-told4 .given in
-    (rw is (line-put _ 5 (_ ∷ []) (c .before .before .before .before .before .before .head5 .ensures) (c .before .before .one-value2 .ensures)), λ low. line-short _ (c .before .before .before .before .before .before .before .before .before .before .before .before .before .args .a) low (rw is (small-more _ _ (omega arith) (small-more _ _ (omega (arith, k)) small-none))))
+    rw is (line-put _ 5 (_ ∷ []) (c .before .before .before .before .before .before .head5 .ensures) (c .before .before .one-value2 .ensures))
 
 same-length-6 : tie.Need-same-length-6
 same-length-6 c = search needs
@@ -149,8 +143,7 @@ returns-6 : tie.Need-returns-6
 unfolding said wordOf ascii
 returns-6 c =
     let is = c .before .before .before .before .before .before .before .before .before .before .a5 .given .1 in
-    let k = c .before .before .before .before .before .before .before .before .before .known-told5 .given in
-    (rw is (line-put _ 6 (_ ∷ _ ∷ _ ∷ []) (c .before .before .before .before .before .before .head6 .ensures) (c .before .before .three-values2 .ensures)), λ low. line-short _ (c .before .before .before .before .before .before .before .before .before .before .before .before .before .args .a) low (rw is (small-more _ _ (omega arith) (small-more _ _ (omega (arith, k)) (small-more _ _ (omega (arith, k)) (small-more _ _ (omega (arith, k)) small-none))))))
+    rw is (line-put _ 6 (_ ∷ _ ∷ _ ∷ []) (c .before .before .before .before .before .before .head6 .ensures) (c .before .before .three-values2 .ensures))
 
 same-length-7 : tie.Need-same-length-7
 same-length-7 c = search needs
@@ -159,8 +152,7 @@ returns-7 : tie.Need-returns-7
 unfolding said wordOf ascii
 returns-7 c =
     let is = c .before .before .before .before .before .before .before .before .before .before .a6 .given .1 in
-    let k = c .before .before .before .before .before .before .before .before .before .known-told6 .given in
-    (rw is (line-put _ 7 (_ ∷ []) (c .before .before .before .before .before .before .head7 .ensures) (c .before .before .one-value3 .ensures)), λ low. line-short _ (c .before .before .before .before .before .before .before .before .before .before .before .before .before .args .a) low (rw is (small-more _ _ (omega arith) (small-more _ _ (omega (arith, k)) small-none))))
+    rw is (line-put _ 7 (_ ∷ []) (c .before .before .before .before .before .before .head7 .ensures) (c .before .before .one-value3 .ensures))
 
 pub line-spec : {M : Type 1} → statement M
 line-spec =
