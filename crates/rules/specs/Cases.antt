@@ -252,6 +252,7 @@ spoils =
 unfoldable pub sessions : List Case
 sessions =
     prints [] (ascii "0 refused 11\n")
+    ∷ prints (0 ∷ []) (ascii "0 refused 11\n")
     ∷ prints (1 ∷ []) []
     -- goes on after a refusal
     ∷ prints (1 ∷ setUpBytes ++ (parseBytes 9 ++ parseBytes 2)) (ascii "1 ready 4\n2 refused 5\n3 parsed 6 1 32\n")
@@ -292,6 +293,7 @@ sessions =
     ∷ performs setUpBytes 275 (9 ∷ 9 ∷ 9 ∷ []) 12 (nines 275) (9 ∷ 9 ∷ 9 ∷ [])
     ∷ performs (setUpBytes ++ (0 ∷ [])) 275 (9 ∷ []) 11 (nines 275) (9 ∷ [])
     ∷ performs [] 275 (9 ∷ 9 ∷ 9 ∷ 9 ∷ []) 11 (nines 275) (9 ∷ 9 ∷ 9 ∷ 9 ∷ [])
+    ∷ performs (0 ∷ 3 ∷ 9 ∷ 0 ∷ []) 16 (9 ∷ 9 ∷ 9 ∷ 9 ∷ []) 11 (nines 16) (9 ∷ 9 ∷ 9 ∷ 9 ∷ [])
     -- the writer
     ∷ writes (SetUp 2 0 16) (replicate 10 9) (1 ∷ 9 ∷ []) (setUpBytes ++ (9 ∷ []))
     ∷ writes (Asks (MakeList 2 258 3 0 0)) (replicate 7 9) (1 ∷ 7 ∷ []) (0 ∷ 5 ∷ 5 ∷ 1 ∷ 2 ∷ 0 ∷ 3 ∷ [])

@@ -89,12 +89,6 @@ termAt t e =
     if isSecretKey t e then secretKey (argument t e 1) else
     if isPublicKey t e then publicKey (argument t e 1) else blank
 
--- T6: what an entry contains: a list's elements, a ciphertext's list
-unfoldable pub contents : Table → ℕ → List ℕ
-contents t e =
-    if isList t e then elements t e else
-    if isCiphertext t e then argument t e 2 ∷ [] else []
-
 -- ---- T7: lengths
 unfoldable pub longest : ℕ
 longest = 4095
