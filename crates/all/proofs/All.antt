@@ -66,6 +66,9 @@ rows·capacity = rows-unique.capacity
 pub rows·used : Tight rows.used.ended (λ M. rows.used.clauses)
 rows·used = rows-unique.used
 
+pub rows·next-with : Tight rows.next_with.ended (λ M. rows.next_with.clauses)
+rows·next-with = rows-unique.next-with
+
 pub rows·kind : Tight rows.kind.ended (λ M. rows.kind.clauses)
 rows·kind = rows-unique.kind
 

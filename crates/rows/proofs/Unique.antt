@@ -1,7 +1,10 @@
--- Each public function's contract leaves no choice: it is an equation for the result and one for the run that is lent. Assumes nothing.
+-- Each public function's contract leaves no choice: it is an equation for what the result says and one for the run that is lent.
+-- Assumes nothing.
 use mathlib.Core.Path.{refl, ap}
 use mathlib.Core.List.{[]}
-use Rattle.tight.specs.Tight.{Tight, law, same}
+use Rattle.tight.specs.Tight.{Tight, law, same, same-by}
+use Rattle.rules.specs.Meaning.{foundAt}
+use Rattle.rules.proofs.Meaning.{unfound, found-back}
 use Rattle.rows.proofs as own
 
 pub most : Tight own.most.ended (λ M. own.most.clauses)
@@ -33,6 +36,9 @@ capacity = law _ _ [] (λ κs a z z′ l l′ p q. (same p q, refl))
 
 pub used : Tight own.used.ended (λ M. own.used.clauses)
 used = law _ _ [] (λ κs a z z′ l l′ p q. (same p q, refl))
+
+pub next-with : Tight own.next_with.ended (λ M. own.next_with.clauses)
+next-with = law _ _ [] (λ κs a z z′ l l′ p q. (same-by foundAt unfound found-back p q, refl))
 
 pub kind : Tight own.kind.ended (λ M. own.kind.clauses)
 kind = law _ _ [] (λ κs a z z′ l l′ p q. (same p q, refl))

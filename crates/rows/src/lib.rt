@@ -4,8 +4,11 @@ ghost use mathlib.Core.List.{_++_};
 ghost use Prim.Native.Nat.{_+_};
 ghost use lib.ListN.{length, replicate};
 ghost use Rattle.rules.specs.Table.{most, rowWidth, word, put, withRow, participants, mask, capacity, used, typeAt, countAt, argument, lengthAt};
+ghost use Rattle.rules.specs.Meaning.{foundAt, orNothing};
 ghost use Rattle.rows.specs.Row.{seven, filled};
+ghost use Rattle.rows.specs.Search.{nextWith};
 use rules::Entry;
+use rules::Found;
 
 // The highest participant that the table's form has room for.
 pub fn most(t: &[u16]) -> u16
@@ -107,6 +110,42 @@ pub fn used(t: &[u16]) -> u16
     ensures { λ r. ⌜ r ≡ used (now (t .entry)) ⌝ }
 {
     word(t, Entry(0), 4)
+}
+
+// The same search in a run that ends before its last used entry: word by word, past the end they are 0.
+fn next_by_word(t: &[u16], e: Entry, k: u16, v: u16) -> Found
+    ensures { λ r. ⌜ foundAt r ≡ orNothing (nextWith (now (t .entry)) (e .0) k v) ⌝ }
+{
+    let used = used(t);
+    let mut x = e.0;
+    while x < used {
+        x += 1;
+        if word(t, Entry(x), k) == v {
+            return Found::At(Entry(x));
+        }
+    }
+    Found::Nothing
+}
+
+// The lowest used entry above e whose word k is v. Entries are gone through by the place of that word, a row's width apart.
+pub fn next_with(t: &[u16], e: Entry, k: u16, v: u16) -> Found
+    ensures { λ r. ⌜ foundAt r ≡ orNothing (nextWith (now (t .entry)) (e .0) k v) ⌝ }
+{
+    let width = row_width(t);
+    let used = used(t) as usize;
+    let last = width * used + k as usize;
+    if t.len() <= last {
+        return next_by_word(t, e, k, v);
+    }
+    let row = e.0 as usize;
+    let mut at = width * row + k as usize;
+    while at < last {
+        at += width;
+        if t[at] == v {
+            return Found::At(Entry(((at - k as usize) / width) as u16));
+        }
+    }
+    Found::Nothing
 }
 
 // The fields of an entry (rule T3).
