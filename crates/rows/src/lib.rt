@@ -1,12 +1,12 @@
 // The lent run as rows of numbers: row 0 is the head, row e is entry e (rules T1 to T3). Reads past the end give 0, writes there do nothing.
 ghost use mathlib.Core.Path.{_≡_};
 ghost use mathlib.Core.List.{_++_};
-ghost use Prim.Native.Nat.{_+_};
+ghost use Prim.Native.Nat.{_+_, _<_};
 ghost use lib.ListN.{length, replicate};
 ghost use Rattle.rules.specs.Table.{most, rowWidth, word, put, withRow, participants, mask, capacity, used, typeAt, countAt, argument, lengthAt};
 ghost use Rattle.rules.specs.Meaning.{foundAt, orNothing};
 ghost use Rattle.rows.specs.Row.{seven, filled};
-ghost use Rattle.rows.specs.Search.{nextWith};
+ghost use Rattle.rows.specs.Search.{nextWith, Reached};
 use rules::Entry;
 use rules::Found;
 
@@ -127,6 +127,26 @@ fn next_by_word(t: &[u16], e: Entry, k: u16, v: u16) -> Found
     Found::Nothing
 }
 
+// From word k of a row the search goes by four rows a turn, not past the place `last`, and stands before four that have v among them.
+fn pass_fours(t: &[u16], row: u16, k: u16, v: u16, last: usize) -> usize
+    requires { ⌜ last < length (now t) ⌝ }
+    ensures { λ r. ⌜ Reached (now (t .entry)) row k v r ⌝ }
+{
+    let width = row_width(t);
+    let mut at = width * row as usize + k as usize;
+    while at + 4 * width <= last {
+        let a = at + width;
+        let b = a + width;
+        let c = b + width;
+        let d = c + width;
+        if t[a] == v || t[b] == v || t[c] == v || t[d] == v {
+            return at;
+        }
+        at = d;
+    }
+    at
+}
+
 // The lowest used entry above e whose word k is v. Entries are gone through by the place of that word, a row's width apart.
 pub fn next_with(t: &[u16], e: Entry, k: u16, v: u16) -> Found
     ensures { λ r. ⌜ foundAt r ≡ orNothing (nextWith (now (t .entry)) (e .0) k v) ⌝ }
@@ -137,8 +157,8 @@ pub fn next_with(t: &[u16], e: Entry, k: u16, v: u16) -> Found
     if t.len() <= last {
         return next_by_word(t, e, k, v);
     }
-    let row = e.0 as usize;
-    let mut at = width * row + k as usize;
+    let row = e.0;
+    let mut at = pass_fours(t, row, k, v, last);
     while at < last {
         at += width;
         if t[at] == v {

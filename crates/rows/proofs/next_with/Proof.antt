@@ -8,7 +8,7 @@ use Rattle.rules.specs.Table.{Table, used}
 use Rattle.rules.specs.Meaning.{foundAt}
 use Rattle.rows.specs.Search.{Reached}
 use Rattle.rows.proofs.Places.{place-low}
-use Rattle.rows.proofs.Search.{reached-first, reached-more, more-fits, found-low, reached-found, reached-last}
+use Rattle.rows.proofs.Search.{reached-more, more-fits, found-low, reached-found, reached-last}
 use Rattle.rows.proofs.next_with.Statement.{statement}
 use Rattle.rows.proofs.next_with.Tie as tie
 
@@ -47,26 +47,14 @@ next-by-word-requires c κs = search needs
 returns : tie.Need-returns Inv-loop μ-loop
 returns c = c .next-by-word .ensures
 
-cast-row : tie.Need-cast-row Inv-loop μ-loop
-cast-row c = search needs
+pass-fours-requires : tie.Need-pass-fours-requires Inv-loop μ-loop
+pass-fours-requires c κs = search needs
 
-mul-at : tie.Need-mul-at Inv-loop μ-loop
-mul-at c =
-    let e = c .before .before .before .before .before .args .e .0 in
-    let l : e < 65536 = omega arith in
-    omega (arith, place-low _ _ e (c .before .before .before .row-width .ensures) l)
+loop-holds : tie.Need-loop-holds Inv-loop μ-loop
+loop-holds c = c .pass-fours .ensures
 
 add-at : tie.Need-add-at Inv-loop μ-loop
 add-at c =
-    let e = c .before .before .before .before .before .args .e .0 in
-    let l : e < 65536 = omega arith in
-    omega (arith, place-low _ _ e (c .before .before .before .row-width .ensures) l)
-
-loop-holds : tie.Need-loop-holds Inv-loop μ-loop
-loop-holds c = reached-first _ _ _ _ _ (c .before .before .before .row-width .ensures)
-
-add-at-2 : tie.Need-add-at-2 Inv-loop μ-loop
-add-at-2 c =
     let b = c .before .before .before .before in
     let fits = more-fits _ _ _ _ _ _ (b .before .row-width .ensures) (c .before .loop .inv) _ (last-is _ _ _ _ (b .used .ensures)) (c .loop-test .taken) in
     omega (arith, fits)
@@ -132,11 +120,9 @@ next-with-spec =
     add-last
     next-by-word-requires
     returns
-    cast-row
-    mul-at
-    add-at
+    pass-fours-requires
     loop-holds
-    add-at-2
+    add-at
     mul-if2
     shared-slice-read-if2
     sub-t19
