@@ -1,15 +1,11 @@
 -- The ways that a command goes, in the facts that the code has on each. Assumes nothing.
 use Prim.Native.Nat.{ℕ}
-use native.Mathlib.Omega.{arith}
-use native.Mathlib.Decide.{ℕ-discrete}
 use mathlib.Core.Path.{_≡_, refl, sym, ap, _∙_}
 use mathlib.Core.Bool.{Bool, true, false}
 use mathlib.Core.List.{List, [], _∷_}
 use types.Run.{OneOf}
 use denote.Enum.Declared.{tagOf}
-use lib.Dec.{eqb}
 use borrow.Author.Tests.{eq-eqb, ne-eqb}
-use Rattle.rules.specs.Choice.{if_then_else_}
 use Rattle.rules.specs.Table.{Table}
 use Rattle.rules.specs.Terms.{Term, numbersOf, lengthOf, newEntry, addEntry, create}
 use Rattle.rules.specs.Handles.{entryOf, holdsHandle}
@@ -18,8 +14,9 @@ use Rattle.rules.specs.Commands.{giveNew, giveFoundOrNew}
 use Rattle.rules.specs.Meaning.{foundAt, orNothing}
 use Rattle.rules.specs.declared.Entry.{Entry}
 use Rattle.rules.specs.declared.Found.{Found}
-use Rattle.rules.specs.declared.Found.the-variants.{At, Nothing}
+use Rattle.rules.specs.declared.Found.the-variants.{At}
 use Rattle.rules.proofs.Found.{the-type}
+use Rattle.rows.proofs.Search.{found, nothing}
 
 -- ---- what a command gives, by an equation of outcomes
 pub ends : {o o′ : Outcome} {a : List ℕ} {s : Table} → o′ ≡ o → (a ≡ o .answer) × (s ≡ o .table) → (a ≡ o′ .answer) × (s ≡ o′ .table)
@@ -28,24 +25,6 @@ ends q p = (p .0 ∙ sym (ap (λ (x : Outcome). x .answer) q), p .1 ∙ sym (ap 
 pub need-fails : {b : Bool} (n : ℕ) (t : Table) (rest : Outcome) → b ≡ false → need b n t rest ≡ gives (refused n) t
 unfolding need
 need-fails n t rest p = rw p refl
-
--- ---- a search's answer, in the arm that it is matched in
-pub found : (n : ℕ) (f : Found) (e : Entry) → foundAt f ≡ orNothing n → f ≡ At e → (n ≡ 0 → ⊥) × (n ≡ e .0)
-unfolding foundAt orNothing
-found n f e p q = go (ℕ-discrete n 0) (rw q at p)
-  where
-    go : Dec (n ≡ 0) → e .0 ∷ [] ≡ (if eqb n 0 then [] else n ∷ []) → (n ≡ 0 → ⊥) × (n ≡ e .0)
-    go (yes z) r = absurd (let w : _≡_ {A = ℕ} 0 1 = let s : e .0 ∷ [] ≡ [] = rw (eq-eqb n 0 z) at r in cc in omega arith)
-    go (no z) r = (z, let s : e .0 ∷ [] ≡ n ∷ [] = rw (ne-eqb n 0 z) at r in cc)
-
-pub nothing : (n : ℕ) (f : Found) → foundAt f ≡ orNothing n → OneOf (1 ∷ []) (tagOf the-type f) → n ≡ 0
-unfolding foundAt orNothing
-nothing n (At e) p h = absurd (omega arith)
-nothing n Nothing p h = go (ℕ-discrete n 0)
-  where
-    go : Dec (n ≡ 0) → n ≡ 0
-    go (yes z) = z
-    go (no z) = absurd (let w : _≡_ {A = ℕ} 0 1 = let s : [] ≡ n ∷ [] = rw (ne-eqb n 0 z) at p in cc in omega arith)
 
 -- ---- a look-up
 module _ (t : Table) (h : ℕ) (f : Found) (p : foundAt f ≡ orNothing (entryOf t 0 h)) where

@@ -1,7 +1,7 @@
 // Handles: who holds an entry, granting, and the one way from a handle to its entry (rules T1 to T3, H1 to H3).
 ghost use mathlib.Core.Path.{_≡_};
 ghost use Rattle.rules.specs.Table.{most, raised, nextHandle, setNextHandle, handle, setHandle};
-ghost use Rattle.rules.specs.Handles.{holds, grant, names, entryOf};
+ghost use Rattle.rules.specs.Handles.{holds, grant, entryOf};
 ghost use Rattle.rules.specs.Meaning.{foundAt, orNothing};
 use rules::Entry;
 use rules::Found;
@@ -73,27 +73,15 @@ pub fn grant(t: &mut [u16], k: u16, e: Entry)
     set_next_handle(t, k, Handle(raised(h.0)));
 }
 
-// Handle h names entry e to knower k.
-fn names(t: &[u16], k: u16, h: Handle, e: Entry) -> bool
-    ensures { λ r. ⌜ r ≡ names (now (t .entry)) k (h .0) (e .0) ⌝ }
-{
-    if h.0 == 0 {
-        return false;
-    }
-    handle(t, k, e).0 == h.0
-}
-
-// The entry that handle h names to knower k: the lowest where the handle stands twice.
+// The entry that handle h names to knower k: the lowest where the handle stands twice. Handle 0 names nothing.
 pub fn entry_of(t: &[u16], k: u16, h: Handle) -> Found
     ensures { λ r. ⌜ foundAt r ≡ orNothing (entryOf (now (t .entry)) k (h .0)) ⌝ }
 {
-    let used = rows::used(t);
-    let mut e: u16 = 0;
-    while e < used {
-        e += 1;
-        if names(t, k, h, Entry(e)) {
-            return Found::At(Entry(e));
-        }
+    if h.0 == 0 {
+        return Found::Nothing;
     }
-    Found::Nothing
+    if rows::most(t) < k {
+        return Found::Nothing;
+    }
+    rows::next_with(t, Entry(0), 7 + k, h.0)
 }

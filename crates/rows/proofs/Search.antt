@@ -4,25 +4,35 @@ use Prim.Native.Nat.{ℕ, _+_, _*_, _-_, _/_, _≤_, _<_}
 use native.Mathlib.Nat.{mul-suc, mul-le-mul-left, mul-div-cancel-left}
 use native.Mathlib.Numerals.{add-one}
 use native.Mathlib.Omega.{arith}
-use native.Mathlib.Decide.{decLe, ℕ-discrete}
+use native.Mathlib.Decide.{decLe, decLt, ℕ-discrete}
 use mathlib.Core.Path.{_≡_, refl, sym, ap, _∙_}
 use mathlib.Core.Logic.{_≢_}
 use mathlib.Core.Bool.{Bool, true, false}
-use mathlib.Core.List.{List, [], _∷_}
+use mathlib.Core.List.{[], _∷_}
+use types.Run.{OneOf}
+use denote.Enum.Declared.{tagOf}
 use lib.Dec.{eqb, ltb}
 use borrow.Author.Tests.{ltb-true, eqb-true, lt-ltb, eq-eqb, ne-eqb}
 use lib.ListN.{getD}
-use Rattle.rules.specs.Choice.{_and_, if_then_else_, lowest}
+use Rattle.rules.specs.Choice.{if_then_else_, lowest}
 use Rattle.rules.specs.Table.{Table, rowWidth, word, used}
-use Rattle.rules.specs.Meaning.{orNothing}
+use Rattle.rules.specs.Meaning.{foundAt, orNothing}
+use Rattle.rules.specs.declared.Entry.{Entry}
+use Rattle.rules.specs.declared.Found.{Found}
+use Rattle.rules.specs.declared.Found.the-variants.{At, Nothing}
+use Rattle.rules.proofs.Found.{the-type}
 use Rattle.rules.proofs.Logic.{and-left, and-right, both, never}
-use Rattle.rules.proofs.Walks.{Lowest, nowhere, somewhere, lowest-is}
+use Rattle.rules.proofs.Walks.{Lowest, nowhere, somewhere, lowest-is, lowest-first, lowest-same}
 use Rattle.rules.proofs.Meaning.{scan-found, scan-nothing}
 use Rattle.rows.specs.Search.{hasAbove, nextWith, NoneTo, Reached}
 
+fails : (b : Bool) → (b ≡ true → ⊥) → b ≡ false
+fails true h = absurd (h refl)
+fails false h = refl
+
 -- ---- no number of 1 to n passes the test
 module _ (f : ℕ → Bool) (n : ℕ) where
-  lowest-none : ((x : ℕ) → 1 ≤ x → x ≤ n → f x ≡ true → ⊥) → lowest f n ≡ 0
+  pub lowest-none : ((x : ℕ) → 1 ≤ x → x ≤ n → f x ≡ true → ⊥) → lowest f n ≡ 0
   lowest-none h = go (lowest f n) (lowest-is f n)
     where
       go : (r : ℕ) → Lowest f n r → r ≡ 0
@@ -114,3 +124,85 @@ module _ (t : Table) (e k v : ℕ) where
           go (no h) =
               let i : r .row + 1 ≤ used t = omega arith in
               absurd (omega (arith, place-more, mul-le-mul-left w i))
+
+-- ---- a search's answer, in the arm that it is matched in
+pub found : (n : ℕ) (f : Found) (e : Entry) → foundAt f ≡ orNothing n → f ≡ At e → (n ≡ 0 → ⊥) × (n ≡ e .0)
+unfolding foundAt orNothing
+found n f e p q = go (ℕ-discrete n 0) (rw q at p)
+  where
+    go : Dec (n ≡ 0) → e .0 ∷ [] ≡ (if eqb n 0 then [] else n ∷ []) → (n ≡ 0 → ⊥) × (n ≡ e .0)
+    go (yes z) r = absurd (let w : _≡_ {A = ℕ} 0 1 = let s : e .0 ∷ [] ≡ [] = rw (eq-eqb n 0 z) at r in cc in omega arith)
+    go (no z) r = (z, let s : e .0 ∷ [] ≡ n ∷ [] = rw (ne-eqb n 0 z) at r in cc)
+
+pub nothing : (n : ℕ) (f : Found) → foundAt f ≡ orNothing n → OneOf (1 ∷ []) (tagOf the-type f) → n ≡ 0
+unfolding foundAt orNothing
+nothing n (At e) p h = absurd (omega arith)
+nothing n Nothing p h = go (ℕ-discrete n 0)
+  where
+    go : Dec (n ≡ 0) → n ≡ 0
+    go (yes z) = z
+    go (no z) = absurd (let w : _≡_ {A = ℕ} 0 1 = let s : [] ≡ n ∷ [] = rw (ne-eqb n 0 z) at p in cc in omega arith)
+
+-- ---- a test that is just this one word's
+pub next-of-all : (t : Table) (f : ℕ → Bool) (k v : ℕ) → ((x : ℕ) → f x ≡ eqb (word t x k) v) → nextWith t 0 k v ≡ lowest f (used t)
+unfolding nextWith
+next-of-all t f k v h = lowest-same _ f (used t) (λ x a b. rw (lt-ltb 0 x a) (sym (h x)))
+
+-- ---- a stricter test: whatever passes has v as its word k; none up to e passes, and r is the next that has v
+module _ (t : Table) (f : ℕ → Bool) (k v : ℕ) (has : (x : ℕ) → f x ≡ true → word t x k ≡ v)
+    (e : ℕ) (past : lowest f e ≡ 0) (r : Found) (next : foundAt r ≡ orNothing (nextWith t e k v)) where
+  next-is : Lowest (hasAbove t e k v) (used t) (nextWith t e k v)
+  unfolding nextWith
+  next-is = lowest-is (hasAbove t e k v) (used t)
+
+  -- what passes is not up to e, so it is above e and has v
+  passes-above : (x : ℕ) → 1 ≤ x → f x ≡ true → hasAbove t e k v x ≡ true
+  passes-above x a p = go (decLe x e)
+    where
+      go : Dec (x ≤ e) → hasAbove t e k v x ≡ true
+      go (yes l) = absurd (none-lowest f e past x a l p)
+      go (no l) = both (lt-ltb e x (omega arith)) (eq-eqb (word t x k) v (has x p))
+
+  pub none-passes : OneOf (1 ∷ []) (tagOf the-type r) → [] ≡ orNothing (lowest f (used t))
+  none-passes h = scan-nothing f (used t) (go (nextWith t e k v) next-is (nothing _ r next h))
+    where
+      go : (n : ℕ) → Lowest (hasAbove t e k v) (used t) n → n ≡ 0 → lowest f (used t) ≡ 0
+      go n (nowhere z m) q = lowest-none f (used t) (λ x a b p. never (passes-above x a p) (m x a b))
+      go n (somewhere a b p m) q = absurd (omega arith)
+
+  module _ (x : Entry) (is : r ≡ At x) where
+    at-next : Lowest (hasAbove t e k v) (used t) (x .0)
+    at-next = rw (found _ r x next is .1) at next-is
+
+    not-zero : x .0 ≡ 0 → ⊥
+    not-zero z = found _ r x next is .0 (found _ r x next is .1 ∙ z)
+
+    pub next-used : (e < x .0) × (x .0 ≤ used t)
+    next-used = go at-next
+      where
+        go : Lowest (hasAbove t e k v) (used t) (x .0) → (e < x .0) × (x .0 ≤ used t)
+        go (nowhere z m) = absurd (not-zero z)
+        go (somewhere a b p m) = (ltb-true e (x .0) (and-left (ltb e (x .0)) _ p), b)
+
+    none-below : (y : ℕ) → 1 ≤ y → y < x .0 → f y ≡ true → ⊥
+    none-below y i l h = go at-next
+      where
+        go : Lowest (hasAbove t e k v) (used t) (x .0) → ⊥
+        go (nowhere z m) = not-zero z
+        go (somewhere a b p m) = never (passes-above y i h) (m y i l)
+
+    -- it passes: the lowest that does
+    pub next-passes : f (x .0) ≡ true → x .0 ∷ [] ≡ orNothing (lowest f (used t))
+    unfolding orNothing
+    next-passes p =
+        let q : lowest f (used t) ≡ x .0 = lowest-first f (used t) (x .0) (omega (arith, next-used .0)) (next-used .1) p
+        (λ y a b. fails (f y) (none-below y a b)) in
+        rw (q, ne-eqb (x .0) 0 not-zero) refl
+
+    -- it does not: the search goes on from it
+    pub next-fails : f (x .0) ≡ false → lowest f (x .0) ≡ 0
+    next-fails q = lowest-none f (x .0) (λ y a b p. go y a p (decLt y (x .0)) b)
+      where
+        go : (y : ℕ) → 1 ≤ y → f y ≡ true → Dec (y < x .0) → y ≤ x .0 → ⊥
+        go y a p (yes l) b = none-below y a l p
+        go y a p (no l) b = let z : y ≡ x .0 = omega arith in never p (ap f z ∙ q)

@@ -8,12 +8,12 @@ use mathlib.Core.Bool.{Bool, true, false}
 use mathlib.Core.List.{List, [], _∷_}
 use lib.ListN.{length, getD, take, length-take}
 use lib.Seq.{ext-getD, getD-take}
-use borrow.Author.Tests.{eq-eqb, ne-eqb}
+use borrow.Author.Tests.{eqb-true, eq-eqb, ne-eqb}
 use Rattle.rules.specs.Table.{Table, word, typeAt, countAt, arguments}
 use Rattle.rules.specs.Terms.{listType, isList, elements, isListOf}
 use Rattle.rules.specs.declared.Entry.{Entry}
-use Rattle.rules.proofs.Logic.{and-right, both, same-true, same-refl}
-use Rattle.terms.specs.Elements.{numbers}
+use Rattle.rules.proofs.Logic.{and-left, and-right, both, same-true, same-refl}
+use Rattle.terms.specs.Elements.{numbers, surePlace, sureNumber}
 
 -- ---- the entries that are handed over
 -- the number of entry i of them
@@ -65,6 +65,22 @@ module _ (t : Table) (e : ℕ) where
       go : (b : Bool) → isListOf t xs e ≡ b → b ≡ false
       go true q = absurd (h (same-true _ _ (and-right (isList t e) _ q)))
       go false q = refl
+
+  -- the word by which a list of the first n of four entries is sought
+  sure-word : (n : ℕ) (es : List Entry) → length es ≡ 4 → isListOf t (take n (numbers es)) e ≡ true
+      → word t e (surePlace n) ≡ sureNumber n (numberAt es 0)
+  unfolding isListOf elements arguments surePlace sureNumber
+  sure-word zero es four p = eqb-true (typeAt t e) listType (and-left (isList t e) _ p)
+  sure-word (suc n) [] four p = absurd (omega arith)
+  sure-word (suc n) (x ∷ es) four p = rw (ne-eqb (suc n) 0 (λ q. omega arith)) (go (countAt t e) (same-true _ _ (and-right (isList t e) _ p)))
+    where
+      go : (c : ℕ) → take c (arguments t e) ≡ take (suc n) (numbers (x ∷ es)) → word t e 2 ≡ x .0
+      go zero q = cc
+      go (suc c) q = cc
+
+  pub has-sure : (n : ℕ) (es : List Entry) → length es ≡ 4 → (p v : ℕ) → p ≡ surePlace n → v ≡ sureNumber n (numberAt es 0)
+      → isListOf t (take n (numbers es)) e ≡ true → word t e p ≡ v
+  has-sure n es four p v q r h = rw (q, r) (sure-word n es four h)
 
   -- the first n of four entries: w of them are wanted, and the entry has m
   module _ (n : ℕ) (es : List Entry) (four : length es ≡ 4) (c m w : ℕ) (counted : c ≡ countAt t e) (few : m ≡ min c 4) (wanted : w ≡ min n 4) where

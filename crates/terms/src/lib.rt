@@ -5,7 +5,7 @@ ghost use lib.ListN.{take};
 ghost use Rattle.rules.specs.Terms.{newEntry, addEntry, isDatumOf, findDatum, findList};
 ghost use Rattle.rules.specs.Meaning.{foundAt, orNothing};
 ghost use Rattle.rows.specs.Row.{seven};
-ghost use Rattle.terms.specs.Elements.{numbers};
+ghost use Rattle.terms.specs.Elements.{numbers, surePlace, sureNumber};
 use rules::Entry;
 use rules::Found;
 
@@ -35,15 +35,16 @@ pub fn is_datum_of(t: &[u16], d: u16, e: Entry) -> bool
 pub fn find_datum(t: &[u16], d: u16) -> Found
     ensures { λ r. ⌜ foundAt r ≡ orNothing (findDatum (now (t .entry)) d) ⌝ }
 {
-    let used = rows::used(t);
     let mut e: u16 = 0;
-    while e < used {
-        e += 1;
-        if is_datum_of(t, d, Entry(e)) {
-            return Found::At(Entry(e));
+    loop {
+        let Found::At(x) = rows::next_with(t, Entry(e), 2, d) else {
+            return Found::Nothing;
+        };
+        if is_datum_of(t, d, x) {
+            return Found::At(x);
         }
+        e = x.0;
     }
-    Found::Nothing
 }
 
 // The number of arguments that a count can mean.
@@ -53,18 +54,33 @@ fn few(count: u16) -> u16
     if count < 4 { count } else { 4 }
 }
 
+// A word that is the same in every list of `count` elements that begin with this one: the first argument; the type where there is none.
+fn sure_place(count: u16) -> u16
+    ensures { λ r. ⌜ r ≡ surePlace count ⌝ }
+{
+    if count == 0 { 0 } else { 2 }
+}
+
+// And what it is.
+fn sure_number(count: u16, first: Entry) -> u16
+    ensures { λ r. ⌜ r ≡ sureNumber count (first .0) ⌝ }
+{
+    if count == 0 { 3 } else { first.0 }
+}
+
 // The lowest list entry with just the first `count` of these elements.
 pub fn find_list(t: &[u16], count: u16, elements: [Entry; 4]) -> Found
     ensures { λ r. ⌜ foundAt r ≡ orNothing (findList (now (t .entry)) (take count (numbers elements))) ⌝ }
 {
-    let used = rows::used(t);
     let wanted = few(count);
+    let place = sure_place(count);
+    let number = sure_number(count, elements[0]);
     let mut e: u16 = 0;
     let found = 'scan: loop {
-        if used <= e {
+        let Found::At(candidate) = rows::next_with(t, Entry(e), place, number) else {
             break 'scan Found::Nothing;
-        }
-        e += 1;
+        };
+        e = candidate.0;
         if rows::kind(t, Entry(e)) != 3 {
             continue 'scan;
         }

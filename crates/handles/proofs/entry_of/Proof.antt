@@ -1,66 +1,65 @@
--- `handles::entry_of` meets its contract: when entry e is reached none up to e is named, so the first that is, is the lowest.
+-- `handles::entry_of` meets its contract: a handle other than 0 names the entries that have it as the knower's word.
 -- Assumes nothing.
-use Prim.Native.Nat.{_-_, _≤_}
+use Prim.Native.Nat.{ℕ, _+_, _≤_, _<_}
 use native.Mathlib.Omega.{arith}
-use mathlib.Core.Path.{_≡_, refl, sym, _∙_}
+use mathlib.Core.Path.{_≡_, refl, sym}
+use mathlib.Core.Logic.{_≢_}
+use mathlib.Core.Bool.{false}
+use mathlib.Core.List.{List, []}
 use borrow.Author.Needs.{needs}
-use Rattle.rules.specs.Choice.{lowest}
+use borrow.Author.Tests.{eq-eqb, ne-eqb}
+use Rattle.rules.specs.Table.{Table, most}
 use Rattle.rules.specs.Handles.{names, entryOf}
-use Rattle.rules.specs.Meaning.{foundAt}
-use Rattle.rules.proofs.Walks.{lowest-skip}
-use Rattle.rules.proofs.Meaning.{scan-found, scan-nothing}
+use Rattle.rules.specs.Meaning.{foundAt, orNothing}
+use Rattle.rules.proofs.Logic.{never}
+use Rattle.rules.proofs.Words.{most-high}
+use Rattle.rules.proofs.Granting.{handle-in, handle-out}
+use Rattle.rules.proofs.Meaning.{scan-nothing}
+use Rattle.rows.specs.Search.{nextWith}
+use Rattle.rows.proofs.Search.{lowest-none, next-of-all}
 use Rattle.handles.proofs.entry_of.Statement.{statement}
 use Rattle.handles.proofs.entry_of.Tie as tie
 
-abbrev Inv-loop : tie.InvT-loop
-Inv-loop t k h used e₀ e = (e ≤ used) × (lowest (names t k (h .0)) e ≡ 0)
+module _ (t : Table) (k h : ℕ) where
+  names-none : ((x : ℕ) → names t k h x ≡ false) → [] ≡ orNothing (entryOf t k h)
+  unfolding entryOf
+  names-none f = scan-nothing _ _ (lowest-none _ _ (λ x a b p. never p (f x)))
 
-abbrev μ-loop : tie.MeasureT-loop
-μ-loop t k h used e₀ e = used - e
+  no-handle : h ≡ 0 → (x : ℕ) → names t k h x ≡ false
+  unfolding names
+  no-handle z x = rw (eq-eqb h 0 z) refl
 
-used-requires : tie.Need-used-requires Inv-loop μ-loop
-used-requires c κs = search needs
+  module _ (some : h ≢ 0) where
+    no-knower : most t < k → (x : ℕ) → names t k h x ≡ false
+    unfolding names
+    no-knower l x = rw (ne-eqb h 0 some, handle-out t k x l, ne-eqb 0 h (λ q. some (sym q))) refl
 
-loop-holds : tie.Need-loop-holds Inv-loop μ-loop
-unfolding lowest
-loop-holds c = (search needs, refl)
+    by-word : k ≤ most t → {r : List ℕ} → r ≡ orNothing (nextWith t 0 (7 + k) h) → r ≡ orNothing (entryOf t k h)
+    unfolding names entryOf
+    by-word l p = rw (← next-of-all t (names t k h) (7 + k) h (λ x. rw (ne-eqb h 0 some, handle-in t k x l) refl)) p
 
-add-e : tie.Need-add-e Inv-loop μ-loop
-add-e c = search needs
+returns : tie.Need-returns
+unfolding foundAt
+returns c = names-none _ _ _ (no-handle _ _ _ (c .if1 .taken))
 
-names-requires : tie.Need-names-requires Inv-loop μ-loop
-names-requires c κs = search needs
+most-requires : tie.Need-most-requires
+most-requires c κs = search needs
 
-returns : tie.Need-returns Inv-loop μ-loop
-unfolding foundAt entryOf
-returns c =
-    rw (← c .before .before .before .before .used .ensures)
-    (scan-found _ _ (c .before .before .before .loop .e) (omega arith) (c .before .before .before .loop .inv .1) (sym (c .before .names .ensures) ∙ c .if1 .taken))
+returns-2 : tie.Need-returns-2
+unfolding foundAt
+returns-2 c = names-none _ _ _ (no-knower _ _ _ (c .before .before .if1 .left) (rw (c .before .most .ensures) at (c .if2 .taken)))
 
-loop-less : tie.Need-loop-less Inv-loop μ-loop
-loop-less c = search needs
+add-next-with : tie.Need-add-next-with
+add-next-with c = omega (arith, c .before .most .ensures, most-high (c .before .before .before .before .before .args .t .now))
 
-loop-again : tie.Need-loop-again Inv-loop μ-loop
-loop-again c =
-    (omega arith, lowest-skip _ (c .before .before .before .loop .e) (c .before .before .before .loop .inv .1) (sym (c .before .names .ensures) ∙ c .if1 .left))
+next-with-requires : tie.Need-next-with-requires
+next-with-requires c κs = search needs
 
-returns-2 : tie.Need-returns-2 Inv-loop μ-loop
-unfolding foundAt entryOf
-returns-2 c =
-    let end : c .before .loop .e ≡ c .before .before .used .result = omega arith in
-    rw (← c .before .before .used .ensures) (scan-nothing _ _ (rw end at (c .before .loop .inv .1)))
+returns-3 : tie.Need-returns-3
+returns-3 c =
+    let b = c .before .before in
+    by-word _ _ _ (b .before .if1 .left) (rw (b .most .ensures) at (c .before .if2 .left)) (c .next-with .ensures)
 
 pub entry-of-spec : {M : Type 1} → statement M
 entry-of-spec =
-    tie.close
-    (tie.spec
-    Inv-loop
-    μ-loop
-    used-requires
-    loop-holds
-    add-e
-    names-requires
-    returns
-    loop-less
-    loop-again
-    returns-2)
+    tie.close (tie.spec returns most-requires returns-2 add-next-with next-with-requires returns-3)

@@ -1,59 +1,83 @@
--- `terms::find_list` meets its contract: when entry e is reached none up to e is that list; inside, when place k is reached the first k
--- elements are alike, so the first difference shuts the entry out, and no difference makes it the lowest. Assumes nothing.
-use Prim.Native.Nat.{_+_, _-_, _≤_, _<_}
+-- `terms::find_list` meets its contract: what has the list's sure word is gone through upwards, and when e is passed none up to e is that
+-- list; inside, when place k is reached the first k elements are alike, so the first difference shuts the entry out, and no difference
+-- makes it the lowest. Assumes nothing.
+use Prim.Native.Nat.{ℕ, _-_, _≤_, _<_}
 use native.Mathlib.Omega.{arith}
 use mathlib.Core.Path.{_≡_, refl, sym, _∙_}
 use mathlib.Core.Logic.{_≢_}
+use mathlib.Core.Bool.{true}
 use lib.ListN.{length, take}
 use borrow.Author.Needs.{needs}
 use Rattle.rules.specs.Choice.{lowest}
-use Rattle.rules.specs.Table.{word, typeAt}
+use Rattle.rules.specs.Table.{word, used}
 use Rattle.rules.specs.Terms.{listType, isListOf, findList}
 use Rattle.rules.specs.Meaning.{foundAt}
-use Rattle.rules.proofs.Walks.{lowest-skip}
-use Rattle.rules.proofs.Meaning.{scan-found, scan-nothing}
+use Rattle.rows.proofs.Search.{none-passes, next-used, next-passes, next-fails}
 use Rattle.terms.specs.Elements.{numbers}
-use Rattle.terms.proofs.Lists.{Alike, alike-none, alike-next, other-type, other-count, other-element, the-list}
+use Rattle.terms.proofs.Lists.{Alike, alike-none, alike-next, has-sure, other-type, other-count, other-element, the-list}
 use Rattle.terms.proofs.find_list.Statement.{statement}
 use Rattle.terms.proofs.find_list.Tie as tie
 
 abbrev Inv-loop : tie.InvT-loop
-Inv-loop t count elements used wanted e k₀ k = (k ≤ wanted) × Alike t e elements k
+Inv-loop t count elements wanted place number e k₀ k = (k ≤ wanted) × Alike t e elements k
 
 abbrev μ-loop : tie.MeasureT-loop
-μ-loop t count elements used wanted e k₀ k = wanted - k
+μ-loop t count elements wanted place number e k₀ k = wanted - k
 
+-- also: whatever is that list has the sure word
 abbrev Inv-scan : tie.InvT-scan
-Inv-scan t count elements used wanted e₀ e = (e ≤ used) × (lowest (isListOf t (take count (numbers elements))) e ≡ 0)
+Inv-scan t count elements wanted place number e₀ e =
+    (lowest (isListOf t (take count (numbers elements))) e ≡ 0) × ((x : ℕ) → isListOf t (take count (numbers elements)) x ≡ true → word t x place ≡ number)
 
 abbrev μ-scan : tie.MeasureT-scan
-μ-scan t count elements used wanted e₀ e = used - e
-
-used-requires : tie.Need-used-requires Inv-loop μ-loop Inv-scan μ-scan
-used-requires c κs = search needs
+μ-scan t count elements wanted place number e₀ e = used t - e
 
 few-requires : tie.Need-few-requires Inv-loop μ-loop Inv-scan μ-scan
 few-requires c κs = search needs
 
+sure-place-requires : tie.Need-sure-place-requires Inv-loop μ-loop Inv-scan μ-scan
+sure-place-requires c κs = search needs
+
+array-copy-out-sure-number : tie.Need-array-copy-out-sure-number Inv-loop μ-loop Inv-scan μ-scan
+array-copy-out-sure-number c = search needs
+
+sure-number-requires : tie.Need-sure-number-requires Inv-loop μ-loop Inv-scan μ-scan
+sure-number-requires c κs = search needs
+
 scan-holds : tie.Need-scan-holds Inv-loop μ-loop Inv-scan μ-scan
 unfolding lowest
-scan-holds c = (search needs, refl)
+scan-holds c =
+    let a = c .before .before .before .before .before in
+    let four : length (a .args .t3) ≡ 4 = a .good .1 .1 .0 .1 .0 .1 in
+    (refl, λ x. has-sure _ x _ (a .args .t3) four _ _ (c .before .before .sure-place .ensures) (c .sure-number .ensures))
 
-add-e : tie.Need-add-e Inv-loop μ-loop Inv-scan μ-scan
-add-e c = search needs
+next-with-requires : tie.Need-next-with-requires Inv-loop μ-loop Inv-scan μ-scan
+next-with-requires c κs = search needs
+
+enum-known-candidate : tie.Need-enum-known-candidate Inv-loop μ-loop Inv-scan μ-scan
+enum-known-candidate c = search needs
+
+enum-told : tie.Need-enum-told Inv-loop μ-loop Inv-scan μ-scan
+enum-told c = search needs
 
 kind-requires : tie.Need-kind-requires Inv-loop μ-loop Inv-scan μ-scan
 kind-requires c κs = search needs
 
 scan-less : tie.Need-scan-less Inv-loop μ-loop Inv-scan μ-scan
-scan-less c = search needs
+scan-less c =
+    let b = c .before .before .before in
+    let n = b .before .before in
+    let s = n .before in
+    let further = next-used _ _ _ _ (s .scan .inv .1) _ (s .scan .inv .0) _ (n .next-with .ensures) _ (b .candidate .given .1) in
+    omega (arith, further .0, further .1)
 
 scan-again : tie.Need-scan-again Inv-loop μ-loop Inv-scan μ-scan
 scan-again c =
     let b = c .before .before .before in
-    let t = b .before .before .before .before .args .t .now in
-    let other : typeAt t (b .scan .e + 1) ≢ listType = λ q. omega (arith, c .before .kind .ensures, q) in
-    (omega arith, lowest-skip _ (b .scan .e) (b .scan .inv .1) (other-type _ _ _ other))
+    let n = b .before .before in
+    let s = n .before in
+    let other : c .before .kind .result ≢ listType = λ q. omega (arith, q) in
+    (next-fails _ _ _ _ (s .scan .inv .1) _ (s .scan .inv .0) _ (n .next-with .ensures) _ (b .candidate .given .1) (other-type _ _ _ (λ q. other (c .before .kind .ensures ∙ q))), s .scan .inv .1)
 
 count-requires : tie.Need-count-requires Inv-loop μ-loop Inv-scan μ-scan
 count-requires c κs = search needs
@@ -62,21 +86,29 @@ few-requires-2 : tie.Need-few-requires-2 Inv-loop μ-loop Inv-scan μ-scan
 few-requires-2 c κs = search needs
 
 scan-less-2 : tie.Need-scan-less-2 Inv-loop μ-loop Inv-scan μ-scan
-scan-less-2 c = search needs
+scan-less-2 c =
+    let b = c .before .before .before .before .before .before in
+    let n = b .before .before in
+    let s = n .before in
+    let further = next-used _ _ _ _ (s .scan .inv .1) _ (s .scan .inv .0) _ (n .next-with .ensures) _ (b .candidate .given .1) in
+    omega (arith, further .0, further .1)
 
 scan-again-2 : tie.Need-scan-again-2 Inv-loop μ-loop Inv-scan μ-scan
 scan-again-2 c =
     let b = c .before .before .before .before .before .before in
-    let a = b .before .before .before .before in
+    let n = b .before .before in
+    let s = n .before in
+    let a = s .before .before .before .before .before .before in
+    let few = s .before .before .before .before .few in
     let four : length (a .args .t3) ≡ 4 = a .good .1 .1 .0 .1 .0 .1 in
-    let other : c .before .few2 .result ≢ b .before .few .result = λ q. omega (arith, q) in (
-      omega arith,
-      lowest-skip _ (b .scan .e) (b .scan .inv .1)
-          (other-count _ _ _ (a .args .t3) four _ _ _ (c .before .before .count .ensures) (c .before .few2 .ensures) (b .before .few .ensures) other),
+    let other : c .before .few2 .result ≢ few .result = λ q. omega (arith, q) in (
+      next-fails _ _ _ _ (s .scan .inv .1) _ (s .scan .inv .0) _ (n .next-with .ensures) _ (b .candidate .given .1)
+          (other-count _ _ _ (a .args .t3) four _ _ _ (c .before .before .count .ensures) (c .before .few2 .ensures) (few .ensures) other),
+      s .scan .inv .1,
     )
 
 loop-holds : tie.Need-loop-holds Inv-loop μ-loop Inv-scan μ-scan
-loop-holds c = (search needs, alike-none _ _ (c .before .before .before .before .before .before .before .before .before .before .args .t3))
+loop-holds c = (search needs, alike-none _ _ (c .before .before .before .before .before .before .before .before .before .before .before .before .before .before .before .args .t3))
 
 cast-x : tie.Need-cast-x Inv-loop μ-loop Inv-scan μ-scan
 cast-x c = search needs
@@ -85,7 +117,7 @@ mul-x : tie.Need-mul-x Inv-loop μ-loop Inv-scan μ-scan
 mul-x c = search needs
 
 array-copy-out-x : tie.Need-array-copy-out-x Inv-loop μ-loop Inv-scan μ-scan
-array-copy-out-x c = omega (arith, c .before .before .before .before .before .before .before .before .before .few .ensures)
+array-copy-out-x c = omega (arith, c .before .before .before .before .before .before .before .before .before .before .before .before .before .before .before .few .ensures)
 
 add-word : tie.Need-add-word Inv-loop μ-loop Inv-scan μ-scan
 add-word c = search needs
@@ -94,22 +126,29 @@ word-requires : tie.Need-word-requires Inv-loop μ-loop Inv-scan μ-scan
 word-requires c κs = search needs
 
 scan-less-3 : tie.Need-scan-less-3 Inv-loop μ-loop Inv-scan μ-scan
-scan-less-3 c = search needs
+scan-less-3 c =
+    let b = c .before .before .before .before .before .before .before .before .before .before .before .before in
+    let n = b .before .before in
+    let s = n .before in
+    let further = next-used _ _ _ _ (s .scan .inv .1) _ (s .scan .inv .0) _ (n .next-with .ensures) _ (b .candidate .given .1) in
+    omega (arith, further .0, further .1)
 
 scan-again-3 : tie.Need-scan-again-3 Inv-loop μ-loop Inv-scan μ-scan
 scan-again-3 c =
     let l = c .before .before .before .before .before in
     let f = l .before in
     let b = f .before .before .before .before .before .before in
-    let a = b .before .before .before .before in
+    let n = b .before .before in
+    let s = n .before in
+    let a = s .before .before .before .before .before .before in
+    let few = s .before .before .before .before .few in
     let four : length (a .args .t3) ≡ 4 = a .good .1 .1 .0 .1 .0 .1 in
-    let many : f .before .few2 .result ≡ b .before .few .result = omega arith in
-    let place : l .loop .k < b .before .few .result = omega arith in
-    let read : c .before .before .word .result ≡ word (a .args .t .now) (b .scan .e + 1) (2 + l .loop .k) = c .before .before .word .ensures in (
-      omega arith,
-      lowest-skip _ (b .scan .e) (b .scan .inv .1)
-          (other-element _ _ _ (a .args .t3) four _ _ _ (f .before .before .count .ensures) (f .before .few2 .ensures) (b .before .few .ensures) many (l .loop .k) place
-          (λ q. c .if4 .taken (read ∙ q))),
+    let many : f .before .few2 .result ≡ few .result = omega arith in
+    let place : l .loop .k < few .result = c .before .before .before .before .loop-test .taken in (
+      next-fails _ _ _ _ (s .scan .inv .1) _ (s .scan .inv .0) _ (n .next-with .ensures) _ (b .candidate .given .1)
+          (other-element _ _ _ (a .args .t3) four _ _ _ (f .before .before .count .ensures) (f .before .few2 .ensures) (few .ensures) many (l .loop .k) place
+          (λ q. c .if3 .taken (c .before .before .word .ensures ∙ q))),
+      s .scan .inv .1,
     )
 
 add-k : tie.Need-add-k Inv-loop μ-loop Inv-scan μ-scan
@@ -121,17 +160,15 @@ loop-less c = search needs
 loop-again : tie.Need-loop-again Inv-loop μ-loop Inv-scan μ-scan
 loop-again c =
     let l = c .before .before .before .before .before in
-    let b = l .before .before .before .before .before .before .before in
-    let a = b .before .before .before .before in
-    let read : c .before .before .word .result ≡ word (a .args .t .now) (b .scan .e + 1) (2 + l .loop .k) = c .before .before .word .ensures in
-    (omega arith, alike-next _ _ (a .args .t3) (l .loop .k) (l .loop .inv .1) (sym read ∙ c .if4 .left))
+    let a = l .before .before .before .before .before .before .before .before .before .before .before .before .before .before .before .before in
+    (omega arith, alike-next _ _ (a .args .t3) (l .loop .k) (l .loop .inv .1) (sym (c .before .before .word .ensures) ∙ c .if3 .left))
 
 returns : tie.Need-returns Inv-loop μ-loop Inv-scan μ-scan
 unfolding foundAt findList
 returns c =
-    let used = c .before .before .before .used in
-    let end : c .before .scan .e ≡ used .result = omega arith in
-    rw (← used .ensures) (scan-nothing _ _ (rw end at (c .before .scan .inv .1)))
+    let n = c .before .before in
+    let s = n .before in
+    none-passes _ _ _ _ (s .scan .inv .1) _ (s .scan .inv .0) (n .next-with .result) (n .next-with .ensures) (c .before .match .keys2)
 
 returns-2 : tie.Need-returns-2 Inv-loop μ-loop Inv-scan μ-scan
 unfolding foundAt findList
@@ -139,14 +176,16 @@ returns-2 c =
     let l = c .before in
     let f = l .before in
     let b = f .before .before .before .before .before .before in
-    let a = b .before .before .before .before in
+    let n = b .before .before in
+    let s = n .before in
+    let a = s .before .before .before .before .before .before in
+    let few = s .before .before .before .before .few in
     let four : length (a .args .t3) ≡ 4 = a .good .1 .1 .0 .1 .0 .1 in
-    let kind : typeAt (a .args .t .now) (b .scan .e + 1) ≡ listType = omega (arith, f .before .before .before .before .kind .ensures) in
-    let many : f .before .few2 .result ≡ b .before .few .result = omega arith in
-    let end : l .loop .k ≡ b .before .few .result = omega arith in
-    rw (← b .before .before .used .ensures) (scan-found _ _ (b .scan .e) (omega arith) (b .scan .inv .1)
-    (the-list _ _ _ (a .args .t3) four _ _ _ (f .before .before .count .ensures) (f .before .few2 .ensures) (b .before .few .ensures) kind many
-    (rw end at (l .loop .inv .1))))
+    let many : f .before .few2 .result ≡ few .result = omega arith in
+    let end : l .loop .k ≡ few .result = omega arith in
+    next-passes _ _ _ _ (s .scan .inv .1) _ (s .scan .inv .0) _ (n .next-with .ensures) _ (b .candidate .given .1)
+    (the-list _ _ _ (a .args .t3) four _ _ _ (f .before .before .count .ensures) (f .before .few2 .ensures) (few .ensures)
+    (sym (f .before .before .before .before .kind .ensures) ∙ f .before .before .before .if1 .left) many (rw end at (l .loop .inv .1)))
 
 pub find-list-spec : {M : Type 1} → statement M
 find-list-spec =
@@ -156,10 +195,14 @@ find-list-spec =
     μ-loop
     Inv-scan
     μ-scan
-    used-requires
     few-requires
+    sure-place-requires
+    array-copy-out-sure-number
+    sure-number-requires
     scan-holds
-    add-e
+    next-with-requires
+    enum-known-candidate
+    enum-told
     kind-requires
     scan-less
     scan-again
