@@ -9,7 +9,7 @@ use mathlib.Core.Path.{_≡_, refl, sym, ap, _∙_}
 use mathlib.Core.List.{List, [], _∷_, _++_, append-assoc}
 use lib.ListN.{length, take, drop, getD, set, length-append}
 use lib.Seq.{sets, take-suc, set-out, length-sets, sets-eq}
-use Rattle.rules.specs.Player.{decimal, wordOf, spaced, lineOf}
+use Rattle.rules.specs.Player.{digit, decimal, wordOf, spaced, lineOf}
 use Rattle.rules.proofs.Decimal.{decimal-small, decimal-more}
 use Rattle.text.specs.Put.{Put}
 
@@ -63,6 +63,15 @@ next-fits h p = omega (arith, p .place)
 pub next-past : {a : List ℕ} {i : ℕ} {xs b : List ℕ} {n : ℕ} → length a < n → Put a i xs b n → length a < i + length xs
 next-past h p = omega (arith, p .place)
 
+-- a place past the end may as well be one past the length
+pub put-from :
+    {a : List ℕ} {i n : ℕ} {xs b : List ℕ} {j : ℕ} → n ≡ min i (length a + 1) → Put a n xs b j → Put a i xs b j
+put-from {a} {i} {n} {xs} e p = record { written = p .written ∙ sets-min a i n xs e; place = omega (arith, p .place, e) }
+
+-- one byte within the output
+pub put-one : (a : List ℕ) (i x : ℕ) {j : ℕ} → i < length a → j ≡ i + 1 → Put a i (x ∷ []) (set a i x) j
+put-one a i x h e = record { written = refl; place = omega arith }
+
 -- ---- one append after another
 pub then :
     {a : List ℕ} {i : ℕ} {xs b : List ℕ} {j : ℕ} {ys c : List ℕ} {k : ℕ}
@@ -82,14 +91,23 @@ pub more :
 more w n h p q = rw (add-one, take-suc w n 0 h) (then p q)
 
 -- ---- a number
-pub digit-put : (n : ℕ) {a : List ℕ} {i : ℕ} {b : List ℕ} {j : ℕ} → n < 10 → Put a i ((48 + n) ∷ []) b j → Put a i (decimal n) b j
+pub digit-put : (n : ℕ) {a : List ℕ} {i : ℕ} {b : List ℕ} {j : ℕ} → n < 10 → Put a i (digit n ∷ []) b j → Put a i (decimal n) b j
 digit-put n h p = rw (decimal-small n h) p
 
--- the higher digits, then the last
+pub two-put :
+    (n : ℕ) {a : List ℕ} {i : ℕ} {b : List ℕ} {j : ℕ}
+    → 10 ≤ n → n < 100 → Put a i (digit (n / 10 % 10) ∷ digit (n % 10) ∷ []) b j → Put a i (decimal n) b j
+two-put n l h p =
+    let e : n / 10 % 10 ≡ n / 10 = omega arith in
+    rw (decimal-more n l, decimal-small (n / 10) (omega arith)) (rw e at p)
+
+-- the higher digits, then the last two
 pub digits-put :
     (n : ℕ) {a : List ℕ} {i : ℕ} {b : List ℕ} {j : ℕ} {c : List ℕ} {k : ℕ}
-    → 10 ≤ n → Put a i (decimal (n / 10)) b j → Put b j ((48 + n % 10) ∷ []) c k → Put a i (decimal n) c k
-digits-put n h p q = rw (decimal-more n h) (then p q)
+    → 100 ≤ n → Put a i (decimal (n / 100)) b j → Put b j (digit (n / 10 % 10) ∷ digit (n % 10) ∷ []) c k → Put a i (decimal n) c k
+digits-put n h p q =
+    let e : n / 10 / 10 ≡ n / 100 = omega arith in
+    rw (decimal-more n (omega arith), decimal-more (n / 10) (omega arith), e, append-assoc) (then p q)
 
 -- ---- the parts of a line
 pub feed-put : {a : List ℕ} {i : ℕ} {b : List ℕ} {j : ℕ} → Put a i (10 ∷ []) b j → Put a i (spaced []) b j
@@ -107,9 +125,9 @@ pub values-put :
 unfolding spaced
 values-put v vs p q = then p q
 
--- what it begins with, then its values
+-- the record's number, the word, the values
 pub line-put :
-    (place n : ℕ) (vs : List ℕ) {a : List ℕ} {i : ℕ} {b : List ℕ} {j : ℕ} {c : List ℕ} {k : ℕ}
-    → Put a i (decimal place ++ (32 ∷ wordOf n)) b j → Put b j (spaced vs) c k → Put a i (lineOf place (n ∷ vs)) c k
+    (place n : ℕ) (vs : List ℕ) {a : List ℕ} {i : ℕ} {b : List ℕ} {j : ℕ} {c : List ℕ} {k : ℕ} {d : List ℕ} {l : ℕ}
+    → Put a i (decimal place) b j → Put b j (32 ∷ wordOf n) c k → Put c k (spaced vs) d l → Put a i (lineOf place (n ∷ vs)) d l
 unfolding lineOf
-line-put place n vs p q = rw append-assoc at (then p q)
+line-put place n vs p q r = then p (then q r)

@@ -3,6 +3,7 @@ use native.Mathlib.Omega.{arith}
 use mathlib.Core.Path.{refl, sym}
 use lib.Seq.{set-out}
 use borrow.Author.Needs.{needs}
+use Rattle.text.proofs.Putting.{put-one}
 use Rattle.text.proofs.byte.Statement.{statement}
 use Rattle.text.proofs.byte.Tie as tie
 
@@ -19,7 +20,7 @@ same-length : tie.Need-same-length
 same-length c = search needs
 
 returns : tie.Need-returns
-returns c = record { written = refl; place = omega arith }
+returns c = put-one _ _ _ (omega arith) refl
 
 returns-2 : tie.Need-returns-2
 returns-2 c = record { written = sym (set-out _ _ _ (c .if1 .left)); place = omega arith }

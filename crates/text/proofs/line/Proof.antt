@@ -1,4 +1,4 @@
--- `text::line` meets its contract: each answer has its word and its values. Assumes nothing.
+-- `text::line` meets its contract: the record's number, then each answer's word and its values. Assumes nothing.
 use mathlib.Core.List.{[], _∷_}
 use borrow.Author.Needs.{needs}
 use Rattle.rules.specs.Player.{ascii, wordOf}
@@ -7,14 +7,17 @@ use Rattle.text.proofs.Putting.{line-put}
 use Rattle.text.proofs.line.Statement.{statement}
 use Rattle.text.proofs.line.Tie as tie
 
+number-requires : tie.Need-number-requires
+number-requires c κs = search needs
+
 enum-known-a : tie.Need-enum-known-a
 enum-known-a c = search needs
 
-slice-aggregate-head : tie.Need-slice-aggregate-head
-slice-aggregate-head c = search needs
+slice-aggregate-word : tie.Need-slice-aggregate-word
+slice-aggregate-word c = search needs
 
-head-requires : tie.Need-head-requires
-head-requires c κs = search needs
+word-requires : tie.Need-word-requires
+word-requires c κs = search needs
 
 one-value-requires : tie.Need-one-value-requires
 one-value-requires c κs = search needs
@@ -22,11 +25,11 @@ one-value-requires c κs = search needs
 enum-known-a-2 : tie.Need-enum-known-a-2
 enum-known-a-2 c = search needs
 
-slice-aggregate-head-2 : tie.Need-slice-aggregate-head-2
-slice-aggregate-head-2 c = search needs
+slice-aggregate-word-2 : tie.Need-slice-aggregate-word-2
+slice-aggregate-word-2 c = search needs
 
-head-requires-2 : tie.Need-head-requires-2
-head-requires-2 c κs = search needs
+word-requires-2 : tie.Need-word-requires-2
+word-requires-2 c κs = search needs
 
 three-values-requires : tie.Need-three-values-requires
 three-values-requires c κs = search needs
@@ -34,11 +37,11 @@ three-values-requires c κs = search needs
 enum-known-a-3 : tie.Need-enum-known-a-3
 enum-known-a-3 c = search needs
 
-slice-aggregate-head-3 : tie.Need-slice-aggregate-head-3
-slice-aggregate-head-3 c = search needs
+slice-aggregate-word-3 : tie.Need-slice-aggregate-word-3
+slice-aggregate-word-3 c = search needs
 
-head-requires-3 : tie.Need-head-requires-3
-head-requires-3 c κs = search needs
+word-requires-3 : tie.Need-word-requires-3
+word-requires-3 c κs = search needs
 
 two-values-requires : tie.Need-two-values-requires
 two-values-requires c κs = search needs
@@ -46,11 +49,11 @@ two-values-requires c κs = search needs
 enum-told : tie.Need-enum-told
 enum-told c = search needs
 
-slice-aggregate-head-4 : tie.Need-slice-aggregate-head-4
-slice-aggregate-head-4 c = search needs
+slice-aggregate-word-4 : tie.Need-slice-aggregate-word-4
+slice-aggregate-word-4 c = search needs
 
-head-requires-4 : tie.Need-head-requires-4
-head-requires-4 c κs = search needs
+word-requires-4 : tie.Need-word-requires-4
+word-requires-4 c κs = search needs
 
 no-value-requires : tie.Need-no-value-requires
 no-value-requires c κs = search needs
@@ -58,11 +61,11 @@ no-value-requires c κs = search needs
 enum-known-a-4 : tie.Need-enum-known-a-4
 enum-known-a-4 c = search needs
 
-slice-aggregate-head-5 : tie.Need-slice-aggregate-head-5
-slice-aggregate-head-5 c = search needs
+slice-aggregate-word-5 : tie.Need-slice-aggregate-word-5
+slice-aggregate-word-5 c = search needs
 
-head-requires-5 : tie.Need-head-requires-5
-head-requires-5 c κs = search needs
+word-requires-5 : tie.Need-word-requires-5
+word-requires-5 c κs = search needs
 
 one-value-requires-2 : tie.Need-one-value-requires-2
 one-value-requires-2 c κs = search needs
@@ -70,11 +73,11 @@ one-value-requires-2 c κs = search needs
 enum-known-a-5 : tie.Need-enum-known-a-5
 enum-known-a-5 c = search needs
 
-slice-aggregate-head-6 : tie.Need-slice-aggregate-head-6
-slice-aggregate-head-6 c = search needs
+slice-aggregate-word-6 : tie.Need-slice-aggregate-word-6
+slice-aggregate-word-6 c = search needs
 
-head-requires-6 : tie.Need-head-requires-6
-head-requires-6 c κs = search needs
+word-requires-6 : tie.Need-word-requires-6
+word-requires-6 c κs = search needs
 
 three-values-requires-2 : tie.Need-three-values-requires-2
 three-values-requires-2 c κs = search needs
@@ -82,11 +85,11 @@ three-values-requires-2 c κs = search needs
 enum-known-a-6 : tie.Need-enum-known-a-6
 enum-known-a-6 c = search needs
 
-slice-aggregate-head-7 : tie.Need-slice-aggregate-head-7
-slice-aggregate-head-7 c = search needs
+slice-aggregate-word-7 : tie.Need-slice-aggregate-word-7
+slice-aggregate-word-7 c = search needs
 
-head-requires-7 : tie.Need-head-requires-7
-head-requires-7 c κs = search needs
+word-requires-7 : tie.Need-word-requires-7
+word-requires-7 c κs = search needs
 
 one-value-requires-3 : tie.Need-one-value-requires-3
 one-value-requires-3 c κs = search needs
@@ -97,8 +100,8 @@ same-length c = search needs
 returns : tie.Need-returns
 unfolding said wordOf ascii
 returns c =
-    let is = c .before .before .before .before .before .before .before .before .before .before .a .given .1 in
-    rw is (line-put _ 1 (_ ∷ []) (c .before .before .before .before .before .before .head .ensures) (c .before .before .one-value .ensures))
+    rw (c .before .before .before .before .before .before .before .before .before .before .a .given .1)
+    (line-put _ 1 (_ ∷ []) (c .before .before .before .before .before .before .before .before .before .before .before .before .before .before .number .ensures) (c .before .before .before .before .before .before .word .ensures) (c .before .before .one-value .ensures))
 
 same-length-2 : tie.Need-same-length-2
 same-length-2 c = search needs
@@ -106,8 +109,8 @@ same-length-2 c = search needs
 returns-2 : tie.Need-returns-2
 unfolding said wordOf ascii
 returns-2 c =
-    let is = c .before .before .before .before .before .before .before .before .before .before .a2 .given .1 in
-    rw is (line-put _ 2 (_ ∷ _ ∷ _ ∷ []) (c .before .before .before .before .before .before .head2 .ensures) (c .before .before .three-values .ensures))
+    rw (c .before .before .before .before .before .before .before .before .before .before .a2 .given .1)
+    (line-put _ 2 (_ ∷ _ ∷ _ ∷ []) (c .before .before .before .before .before .before .before .before .before .before .before .before .before .before .number .ensures) (c .before .before .before .before .before .before .word2 .ensures) (c .before .before .three-values .ensures))
 
 same-length-3 : tie.Need-same-length-3
 same-length-3 c = search needs
@@ -115,8 +118,8 @@ same-length-3 c = search needs
 returns-3 : tie.Need-returns-3
 unfolding said wordOf ascii
 returns-3 c =
-    let is = c .before .before .before .before .before .before .before .before .before .before .a3 .given .1 in
-    rw is (line-put _ 3 (_ ∷ _ ∷ []) (c .before .before .before .before .before .before .head3 .ensures) (c .before .before .two-values .ensures))
+    rw (c .before .before .before .before .before .before .before .before .before .before .a3 .given .1)
+    (line-put _ 3 (_ ∷ _ ∷ []) (c .before .before .before .before .before .before .before .before .before .before .before .before .before .before .number .ensures) (c .before .before .before .before .before .before .word3 .ensures) (c .before .before .two-values .ensures))
 
 same-length-4 : tie.Need-same-length-4
 same-length-4 c = search needs
@@ -124,8 +127,8 @@ same-length-4 c = search needs
 returns-4 : tie.Need-returns-4
 unfolding said wordOf ascii
 returns-4 c =
-    let is = c .before .before .before .before .before .before .before .before .before .enum-told .given .1 in
-    rw is (line-put _ 4 [] (c .before .before .before .before .before .before .head4 .ensures) (c .before .before .no-value .ensures))
+    rw (c .before .before .before .before .before .before .before .before .before .enum-told .given .1)
+    (line-put _ 4 [] (c .before .before .before .before .before .before .before .before .before .before .before .before .before .number .ensures) (c .before .before .before .before .before .before .word4 .ensures) (c .before .before .no-value .ensures))
 
 same-length-5 : tie.Need-same-length-5
 same-length-5 c = search needs
@@ -133,8 +136,8 @@ same-length-5 c = search needs
 returns-5 : tie.Need-returns-5
 unfolding said wordOf ascii
 returns-5 c =
-    let is = c .before .before .before .before .before .before .before .before .before .before .a4 .given .1 in
-    rw is (line-put _ 5 (_ ∷ []) (c .before .before .before .before .before .before .head5 .ensures) (c .before .before .one-value2 .ensures))
+    rw (c .before .before .before .before .before .before .before .before .before .before .a4 .given .1)
+    (line-put _ 5 (_ ∷ []) (c .before .before .before .before .before .before .before .before .before .before .before .before .before .before .number .ensures) (c .before .before .before .before .before .before .word5 .ensures) (c .before .before .one-value2 .ensures))
 
 same-length-6 : tie.Need-same-length-6
 same-length-6 c = search needs
@@ -142,8 +145,8 @@ same-length-6 c = search needs
 returns-6 : tie.Need-returns-6
 unfolding said wordOf ascii
 returns-6 c =
-    let is = c .before .before .before .before .before .before .before .before .before .before .a5 .given .1 in
-    rw is (line-put _ 6 (_ ∷ _ ∷ _ ∷ []) (c .before .before .before .before .before .before .head6 .ensures) (c .before .before .three-values2 .ensures))
+    rw (c .before .before .before .before .before .before .before .before .before .before .a5 .given .1)
+    (line-put _ 6 (_ ∷ _ ∷ _ ∷ []) (c .before .before .before .before .before .before .before .before .before .before .before .before .before .before .number .ensures) (c .before .before .before .before .before .before .word6 .ensures) (c .before .before .three-values2 .ensures))
 
 same-length-7 : tie.Need-same-length-7
 same-length-7 c = search needs
@@ -151,40 +154,41 @@ same-length-7 c = search needs
 returns-7 : tie.Need-returns-7
 unfolding said wordOf ascii
 returns-7 c =
-    let is = c .before .before .before .before .before .before .before .before .before .before .a6 .given .1 in
-    rw is (line-put _ 7 (_ ∷ []) (c .before .before .before .before .before .before .head7 .ensures) (c .before .before .one-value3 .ensures))
+    rw (c .before .before .before .before .before .before .before .before .before .before .a6 .given .1)
+    (line-put _ 7 (_ ∷ []) (c .before .before .before .before .before .before .before .before .before .before .before .before .before .before .number .ensures) (c .before .before .before .before .before .before .word7 .ensures) (c .before .before .one-value3 .ensures))
 
 pub line-spec : {M : Type 1} → statement M
 line-spec =
     tie.close
     (tie.spec
+    number-requires
     enum-known-a
-    slice-aggregate-head
-    head-requires
+    slice-aggregate-word
+    word-requires
     one-value-requires
     enum-known-a-2
-    slice-aggregate-head-2
-    head-requires-2
+    slice-aggregate-word-2
+    word-requires-2
     three-values-requires
     enum-known-a-3
-    slice-aggregate-head-3
-    head-requires-3
+    slice-aggregate-word-3
+    word-requires-3
     two-values-requires
     enum-told
-    slice-aggregate-head-4
-    head-requires-4
+    slice-aggregate-word-4
+    word-requires-4
     no-value-requires
     enum-known-a-4
-    slice-aggregate-head-5
-    head-requires-5
+    slice-aggregate-word-5
+    word-requires-5
     one-value-requires-2
     enum-known-a-5
-    slice-aggregate-head-6
-    head-requires-6
+    slice-aggregate-word-6
+    word-requires-6
     three-values-requires-2
     enum-known-a-6
-    slice-aggregate-head-7
-    head-requires-7
+    slice-aggregate-word-7
+    word-requires-7
     one-value-requires-3
     same-length
     returns
