@@ -1,15 +1,16 @@
 // The check that a table is well formed, on every run of numbers (rules W1 to W11; what each entry has to fit is in `entries_fit`).
 ghost use mathlib.Core.Path.{_≡_};
-ghost use Prim.Native.Nat.{_≤_};
+ghost use mathlib.Core.Bool.{true, not};
+ghost use Prim.Native.Nat.{_+_, _*_, _≤_, _<_};
 ghost use lib.Dec.{eqb};
-ghost use Rattle.rules.specs.Choice.{_or_, agree, all};
-ghost use Rattle.rules.specs.Table.{most, version, participants, mask, used, nextHandle, sparesFit, everyKnower};
+ghost use Rattle.rules.specs.Choice.{_or_, if_then_else_, agree, all};
+ghost use Rattle.rules.specs.Table.{size, most, rowWidth, version, participants, mask, used, sparesFit, everyKnower};
 ghost use Rattle.rules.specs.Handles.{holds, held};
 ghost use Rattle.rules.specs.SetUp.{holdsSecretKey, holdsPublicKey};
 ghost use Rattle.rules.specs.WellFormed.{runIsLong, headFits, usedFits, heldAsNamed, isSecretKeyOf, isPublicKeyOf, keysFit};
-ghost use Rattle.rules.specs.WellFormed.{mayHold, handleIsBelow, handlesFit, wellFormed};
+ghost use Rattle.rules.specs.WellFormed.{mayHold, handlesFit, wellFormed};
+ghost use Rattle.formed.specs.Counts.{Counts, handleIsBelowAt, handlesAreBelow};
 use rules::Entry;
-use rules::Handle;
 
 // The run has the head, and a row for each entry up to its capacity.
 fn run_is_long(t: &[u16]) -> bool
@@ -176,42 +177,47 @@ fn may_hold(t: &[u16], k: u16) -> bool
     people::honest(t, k)
 }
 
-// How many used entries knower k holds.
-fn held(t: &[u16], k: u16) -> u16
-    ensures { λ r. ⌜ r ≡ held (now (t .entry)) k ⌝ }
+// What a handle counts for: 0 is no handle.
+fn one_if_held(h: u16) -> u16
+    ensures counts { λ r. ⌜ r ≡ (if not (eqb h 0) then 1 else 0) ⌝ }
+    ensures small { λ r. ⌜ r ≤ 1 ⌝ }
 {
-    let used = rows::used(t);
-    let mut n: u16 = 0;
-    let mut e: u16 = 0;
-    while e < used {
-        e += 1;
-        if handles::holds(t, k, Entry(e)) {
-            n += 1;
-        }
-    }
-    n
+    if h != 0 { 1 } else { 0 }
 }
 
-// Knower k's handle on entry e is below its next one.
-fn handle_is_below(t: &[u16], k: u16, next: Handle, e: Entry) -> bool
-    requires { ⌜ next .0 ≡ nextHandle (now t) k ⌝ }
-    ensures { λ r. ⌜ r ≡ handleIsBelow (now (t .entry)) k (e .0) ⌝ }
+// Counts the handles on the entry after the first e, for each knower. It stops at one that isn't below its knower's next handle.
+fn row_is_counted(t: &[u16], e: u16, held: &mut [u16; 13]) -> bool
+    requires { ⌜ (e < 65535) × (rowWidth (now t) * (e + 1) + rowWidth (now t) ≤ size (now t)) × Counts (now t) e (now held) ⌝ }
+    ensures below { λ r. ⌜ r ≡ everyKnower (now (t .entry)) (handleIsBelowAt (now (t .entry)) (e + 1)) ⌝ }
+    ensures counts { λ r. ⌜ (r ≡ true → Counts (now (t .entry)) (e + 1) (now (held .exit))) ⌝ }
 {
-    handles::handle(t, k, e).0 < next.0
-}
-
-// Each of knower k's handles on used entries is below its next one, which is read once.
-fn handles_are_below(t: &[u16], k: u16) -> bool
-    ensures { λ r. ⌜ r ≡ all (handleIsBelow (now (t .entry)) k) (used (now (t .entry))) ⌝ }
-{
-    let next = handles::next_handle(t, k);
-    let last = rows::used(t);
-    let mut e: u16 = 0;
-    while e < last {
-        e += 1;
-        if !handle_is_below(t, k, next, Entry(e)) {
+    let from = rows::row_width(t) * (e as usize + 1);
+    let most = rows::most(t) as usize;
+    let mut k: usize = 0;
+    while k <= most {
+        let h = t[from + 7 + k];
+        if t[5 + k] <= h {
             return false;
         }
+        held[k] += one_if_held(h);
+        k += 1;
+    }
+    true
+}
+
+// Counts the handles on every used entry.
+fn rows_are_counted(t: &[u16], held: &mut [u16; 13]) -> bool
+    requires { ⌜ (rowWidth (now t) * used (now t) + rowWidth (now t) ≤ size (now t)) × Counts (now t) 0 (now held) ⌝ }
+    ensures below { λ r. ⌜ r ≡ everyKnower (now (t .entry)) (handlesAreBelow (now (t .entry)) (used (now (t .entry)))) ⌝ }
+    ensures counts { λ r. ⌜ (r ≡ true → Counts (now (t .entry)) (used (now (t .entry))) (now (held .exit))) ⌝ }
+{
+    let used = rows::used(t);
+    let mut e: u16 = 0;
+    while e < used {
+        if !row_is_counted(t, e, held) {
+            return false;
+        }
+        e += 1;
     }
     true
 }
@@ -226,28 +232,30 @@ fn holding_fits(t: &[u16], k: u16, held: u16) -> bool
     held == 0
 }
 
-// Knower k's handles are below its next one, which is one more than their number.
-fn handles_fit(t: &[u16], k: u16) -> bool
+// Knower k's handles, all of which are below its next one, are n, one fewer than that.
+fn handles_fit(t: &[u16], k: u16, n: u16) -> bool
+    requires { ⌜ (n ≡ held (now t) k) × (handlesAreBelow (now t) (used (now t)) k ≡ true) ⌝ }
     ensures { λ r. ⌜ r ≡ handlesFit (now (t .entry)) k ⌝ }
 {
-    let held = held(t, k);
-    if !holding_fits(t, k, held) {
+    if !holding_fits(t, k, n) {
         return false;
     }
-    if handles::next_handle(t, k).0 as u32 != 1 + held as u32 {
-        return false;
-    }
-    handles_are_below(t, k)
+    handles::next_handle(t, k).0 as u32 == 1 + n as u32
 }
 
-// The handles of every knower fit.
+// The handles of every knower fit. The used rows lie in the run.
 fn all_handles_fit(t: &[u16]) -> bool
+    requires { ⌜ rowWidth (now t) * used (now t) + rowWidth (now t) ≤ size (now t) ⌝ }
     ensures { λ r. ⌜ r ≡ everyKnower (now (t .entry)) (handlesFit (now (t .entry))) ⌝ }
 {
+    let mut held = [0u16; 13];
+    if !rows_are_counted(t, &mut held) {
+        return false;
+    }
     let highest = rows::most(t);
     let mut k: u16 = 0;
     while k <= highest {
-        if !handles_fit(t, k) {
+        if !handles_fit(t, k, held[k as usize]) {
             return false;
         }
         k += 1;

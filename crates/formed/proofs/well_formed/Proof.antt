@@ -1,9 +1,10 @@
--- `formed::well_formed` meets its contract: the clauses are the rule's, in its order, and by the second the participants are few.
--- Assumes nothing.
+-- `formed::well_formed` meets its contract: the clauses are the rule's, in its order, by the second the participants are few,
+-- and by the first and the third the used rows lie in the run. Assumes nothing.
 use borrow.Author.Needs.{needs}
 use Rattle.rules.specs.WellFormed.{wellFormed}
 use Rattle.rules.proofs.Logic.{found-true, and-stops, and-goes}
 use Rattle.rules.proofs.Shaping.{head-plain}
+use Rattle.formed.proofs.Counting.{used-inside}
 use Rattle.formed.proofs.well_formed.Statement.{statement}
 use Rattle.formed.proofs.well_formed.Tie as tie
 
@@ -67,7 +68,10 @@ returns-5 c =
     (and-stops _ (c .before .entries-fit .ensures) (c .if5 .taken)))))
 
 all-handles-fit-requires : tie.Need-all-handles-fit-requires
-all-handles-fit-requires c κs = search needs
+all-handles-fit-requires c κs =
+    let c₃ = c .before .before .before .before in
+    let c₁ = c₃ .before .before .before .before in
+    used-inside _ (found-true (c₁ .before .run-is-long .ensures) (c₁ .if1 .left)) (found-true (c₃ .before .used-fits .ensures) (c₃ .if3 .left))
 
 returns-6 : tie.Need-returns-6
 unfolding wellFormed
