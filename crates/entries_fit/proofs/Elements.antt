@@ -1,83 +1,89 @@
--- The arguments and the elements of an entry, walked place by place: place i holds word 2 + i of the entry's row. Assumes nothing.
-use Prim.Native.Nat.{ℕ, zero, suc, _+_, _≤_, _<_}
-use native.Mathlib.Nat.{min-le-left, min-le-right, min-eq-left, min-eq-right}
-use native.Mathlib.Numerals.{add-one}
+-- The four arguments of an entry, of which the count says how many are elements. Assumes nothing.
+use Prim.Native.Nat.{ℕ, zero, suc, _+_, _<_}
 use native.Mathlib.Omega.{arith}
-use mathlib.Core.Path.{_≡_, refl, _∙_}
+use mathlib.Core.Path.{_≡_, refl}
 use mathlib.Core.Bool.{Bool, true, false}
 use mathlib.Core.List.{List, [], _∷_}
-use lib.ListN.{length, drop, getD, length-take, drop-of-length-le}
-use lib.Seq.{drop-cons, getD-take}
-use Rattle.rules.specs.Choice.{every, sumOf}
-use Rattle.rules.specs.Table.{Table, word, countAt, arguments}
+use lib.Dec.{ltb}
+use lib.ListN.{take, drop}
+use borrow.Author.Tests.{lt-ltb}
+use Rattle.rules.specs.Choice.{_and_, _or_, _implies_, if_then_else_, every, sumOf, isZero}
+use Rattle.rules.specs.Table.{Table, countAt, argument, arguments}
 use Rattle.rules.specs.Terms.{elements}
+use Rattle.rules.specs.WellFormed.{unusedAreZero}
 
+-- four or more are over each place, and nothing is left past the fourth
+over : (i n : ℕ) → i < 4 → ltb i (suc (suc (suc (suc n)))) ≡ true
+over i n h = lt-ltb i (suc (suc (suc (suc n)))) (omega arith)
+
+abbrev none : List ℕ
+none = []
+
+none-taken : (n : ℕ) → take n none ≡ none
+none-taken zero = refl
+none-taken (suc n) = refl
+
+none-left : (n : ℕ) → drop n none ≡ none
+none-left zero = refl
+none-left (suc n) = refl
+
+module _ (a b c d : ℕ) where
+  abbrev four : List ℕ
+  four = a ∷ b ∷ c ∷ d ∷ []
+
+  -- ---- the first n pass a test, or the others do
+  every-taken : (f : ℕ → Bool) (n : ℕ) → every f (take n four)
+      ≡ (ltb 0 n implies f a) and (ltb 1 n implies f b) and (ltb 2 n implies f c) and (ltb 3 n implies f d) and true
+  unfolding every
+  every-taken f zero = refl
+  every-taken f (suc zero) = refl
+  every-taken f (suc (suc zero)) = refl
+  every-taken f (suc (suc (suc zero))) = refl
+  every-taken f (suc (suc (suc (suc n)))) =
+      rw (over 0 n (omega arith), over 1 n (omega arith), over 2 n (omega arith), over 3 n (omega arith), none-taken n) refl
+
+  every-left : (f : ℕ → Bool) (n : ℕ) → every f (drop n four)
+      ≡ (ltb 0 n or f a) and (ltb 1 n or f b) and (ltb 2 n or f c) and (ltb 3 n or f d) and true
+  unfolding every
+  every-left f zero = refl
+  every-left f (suc zero) = refl
+  every-left f (suc (suc zero)) = refl
+  every-left f (suc (suc (suc zero))) = refl
+  every-left f (suc (suc (suc (suc n)))) =
+      rw (over 0 n (omega arith), over 1 n (omega arith), over 2 n (omega arith), over 3 n (omega arith), none-left n) refl
+
+  -- ---- the sum over the first n
+  sum-taken : (f : ℕ → ℕ) (n : ℕ) → sumOf f (take n four)
+      ≡ (if ltb 0 n then f a else 0) + (if ltb 1 n then f b else 0) + (if ltb 2 n then f c else 0) + (if ltb 3 n then f d else 0)
+  unfolding sumOf
+  sum-taken f zero = refl
+  sum-taken f (suc zero) = omega arith
+  sum-taken f (suc (suc zero)) = omega arith
+  sum-taken f (suc (suc (suc zero))) = omega arith
+  sum-taken f (suc (suc (suc (suc n)))) =
+      rw (over 0 n (omega arith), over 1 n (omega arith), over 2 n (omega arith), over 3 n (omega arith), none-taken n) (omega arith)
+
+-- ---- of an entry
 module _ (t : Table) (e : ℕ) where
-  argument-at : (i : ℕ) → i < 4 → getD (arguments t e) i 0 ≡ word t e (2 + i)
-  unfolding arguments
-  argument-at zero h = refl
-  argument-at (suc zero) h = refl
-  argument-at (suc (suc zero)) h = refl
-  argument-at (suc (suc (suc zero))) h = refl
-  argument-at (suc (suc (suc (suc i)))) h = absurd (omega arith)
+  pub unused-are : unusedAreZero t e
+      ≡ (ltb 0 (countAt t e) or isZero (argument t e 1)) and (ltb 1 (countAt t e) or isZero (argument t e 2))
+      and (ltb 2 (countAt t e) or isZero (argument t e 3)) and (ltb 3 (countAt t e) or isZero (argument t e 4)) and true
+  unfolding unusedAreZero arguments
+  unused-are = every-left _ _ _ _ isZero (countAt t e)
 
-  arguments-four : length (arguments t e) ≡ 4
-  unfolding arguments
-  arguments-four = refl
+  pub elements-are : (f : ℕ → Bool) → every f (elements t e)
+      ≡ (ltb 0 (countAt t e) implies f (argument t e 1)) and (ltb 1 (countAt t e) implies f (argument t e 2))
+      and (ltb 2 (countAt t e) implies f (argument t e 3)) and (ltb 3 (countAt t e) implies f (argument t e 4)) and true
+  unfolding elements arguments
+  elements-are f = every-taken _ _ _ _ f (countAt t e)
 
-  -- ---- the arguments from place i on
-  pub next-argument : (i : ℕ) → i < 4 → drop i (arguments t e) ≡ word t e (2 + i) ∷ drop (i + 1) (arguments t e)
-  next-argument i h =
-      rw (add-one, ← argument-at i h) (drop-cons (arguments t e) i 0 (omega (arith, arguments-four)))
+  pub lengths-are : (f : ℕ → ℕ) → sumOf f (elements t e)
+      ≡ (if ltb 0 (countAt t e) then f (argument t e 1) else 0) + (if ltb 1 (countAt t e) then f (argument t e 2) else 0)
+      + (if ltb 2 (countAt t e) then f (argument t e 3) else 0) + (if ltb 3 (countAt t e) then f (argument t e 4) else 0)
+  unfolding elements arguments
+  lengths-are f = sum-taken _ _ _ _ f (countAt t e)
 
-  pub no-argument : (i : ℕ) → 4 ≤ i → drop i (arguments t e) ≡ []
-  no-argument i h = drop-of-length-le (arguments t e) {i = i} (omega (arith, arguments-four))
-
-  -- ---- the elements: as many as the count says, up to four
-  pub few-elements : countAt t e < 4 → length (elements t e) ≡ countAt t e
-  unfolding elements
-  few-elements h = length-take (countAt t e) (arguments t e) ∙ min-eq-left (omega (arith, arguments-four))
-
-  pub four-elements : 4 ≤ countAt t e → length (elements t e) ≡ 4
-  unfolding elements
-  four-elements h = length-take (countAt t e) (arguments t e) ∙ min-eq-right (omega (arith, arguments-four)) ∙ arguments-four
-
-  pub elements-four : length (elements t e) ≤ 4
-  unfolding elements
-  elements-four = rw (length-take (countAt t e) (arguments t e), arguments-four) (min-le-right (countAt t e) 4)
-
-  elements-low : length (elements t e) ≤ countAt t e
-  unfolding elements
-  elements-low = rw (length-take (countAt t e) (arguments t e)) (min-le-left (countAt t e) (length (arguments t e)))
-
-  element-at : (i : ℕ) → i < length (elements t e) → getD (elements t e) i 0 ≡ word t e (2 + i)
-  unfolding elements
-  element-at i h =
-      let l : i < countAt t e = omega (arith, elements-low) in
-      getD-take (countAt t e) (arguments t e) i 0 l ∙ argument-at i (omega (arith, elements-four))
-
-  pub next-element : (i : ℕ) → i < length (elements t e) → drop i (elements t e) ≡ word t e (2 + i) ∷ drop (i + 1) (elements t e)
-  next-element i h = rw (add-one, ← element-at i h) (drop-cons (elements t e) i 0 h)
-
--- ---- tests and sums over what is left of a list
-module _ (xs : List ℕ) (i x : ℕ) (here : drop i xs ≡ x ∷ drop (i + 1) xs) where
-  pub every-passes : (f : ℕ → Bool) → f x ≡ true → every f (drop i xs) ≡ every f (drop (i + 1) xs)
-  unfolding every
-  every-passes f p = rw (here, p) refl
-
-  pub every-fails : (f : ℕ → Bool) → f x ≡ false → every f (drop i xs) ≡ false
-  unfolding every
-  every-fails f p = rw (here, p) refl
-
-  pub sum-next : (f : ℕ → ℕ) → sumOf f (drop i xs) ≡ f x + sumOf f (drop (i + 1) xs)
-  unfolding sumOf
-  sum-next f = rw here refl
-
-module _ (xs : List ℕ) (i : ℕ) (done : drop i xs ≡ []) where
-  pub every-done : (f : ℕ → Bool) → every f (drop i xs) ≡ true
-  unfolding every
-  every-done f = rw done refl
-
-  pub sum-done : (f : ℕ → ℕ) → sumOf f (drop i xs) ≡ 0
-  unfolding sumOf
-  sum-done f = rw done refl
+-- a list's test ends in one that passes
+pub and-true : (b : Bool) → b and true ≡ b
+and-true true = refl
+and-true false = refl

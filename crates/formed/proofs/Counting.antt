@@ -10,7 +10,7 @@ use lib.Dec.{eqb, leb}
 use lib.ListN.{length, getD, set, replicate, length-set, getD-replicate}
 use lib.Seq.{getD-set-same, getD-set-other}
 use borrow.Author.Tests.{leb-true, lt-ltb, le-ltb}
-use Rattle.rules.specs.Choice.{_and_, _or_, if_then_else_, count}
+use Rattle.rules.specs.Choice.{_or_, if_then_else_, count}
 use Rattle.rules.specs.Table.{Table, size, most, rowWidth, wordsFor, version, participants, capacity, word, used, nextHandle, handle, everyKnower}
 use Rattle.rules.specs.Handles.{holds, held}
 use Rattle.rules.specs.WellFormed.{runIsLong, usedFits, mayHold, handleIsBelow, handlesFit}
@@ -96,8 +96,3 @@ module _ (t : Table) where
       let long : wordsFor (version t) (capacity t) ≤ size t = leb-true _ _ (and-right (leb (rowWidth t) (size t)) _ h) in
       let room : used t ≤ capacity t = leb-true _ _ (and-right (leb (2 * participants t) (used t)) _ h′) in
       omega (arith, rw words-for at long, mul-le-mul-left (rowWidth t) room)
-
--- a test that is known to pass adds nothing
-pub and-true : (b : Bool) → b and true ≡ b
-and-true true = refl
-and-true false = refl

@@ -15,11 +15,11 @@ last-key-requires c κs = search needs
 
 returns-2 : tie.Need-returns-2
 unfolding isKeyPlace
-returns-2 c = rw (le-leb 1 _ (c .before .before .if1 .left), lt-leb _ _ (rw (c .before .last-key .ensures) at (c .if2 .taken))) refl
+returns-2 c = rw (le-leb 1 _ (c .before .before .if1 .left), lt-leb _ _ (rw (c .before .last-key .ensures, c .before .before .before .before .pre) at (c .if2 .taken))) refl
 
 returns-3 : tie.Need-returns-3
 unfolding isKeyPlace
-returns-3 c = rw (le-leb 1 _ (c .before .before .if1 .left), le-leb _ _ (rw (c .before .last-key .ensures) at (c .if2 .left))) refl
+returns-3 c = rw (le-leb 1 _ (c .before .before .if1 .left), le-leb _ _ (rw (c .before .last-key .ensures, c .before .before .before .before .pre) at (c .if2 .left))) refl
 
 pub is-key-place-spec : {M : Type 1} → statement M
 is-key-place-spec = tie.close (tie.spec returns last-key-requires returns-2 returns-3)

@@ -7,9 +7,6 @@ use Rattle.rules.specs.WellFormed.{lengthFits}
 use Rattle.entries_fit.proofs.length_fits.Statement.{statement}
 use Rattle.entries_fit.proofs.length_fits.Tie as tie
 
-length-requires : tie.Need-length-requires
-length-requires c κs = search needs
-
 cast-if1 : tie.Need-cast-if1
 cast-if1 c = search needs
 
@@ -18,12 +15,11 @@ length-of-requires c κs = search needs
 
 returns : tie.Need-returns
 unfolding lengthFits
-returns c = rw (← c .before .before .length .ensures, ← c .before .length-of .ensures, ne-eqb _ _ (c .if1 .taken)) refl
+returns c = rw (← c .before .before .before .before .pre .lengths, ← c .before .length-of .ensures, ne-eqb _ _ (c .if1 .taken)) refl
 
 returns-2 : tie.Need-returns-2
 unfolding lengthFits longest
-returns-2 c = rw (← c .before .before .length .ensures, ← c .before .length-of .ensures, eq-eqb _ _ (c .if1 .left)) refl
+returns-2 c = rw (← c .before .before .before .before .before .pre .lengths, ← c .before .before .length-of .ensures, eq-eqb _ _ (c .before .if1 .left)) refl
 
 pub length-fits-spec : {M : Type 1} → statement M
-length-fits-spec =
-    tie.close (tie.spec length-requires cast-if1 length-of-requires returns returns-2)
+length-fits-spec = tie.close (tie.spec cast-if1 length-of-requires returns returns-2)

@@ -1,92 +1,76 @@
--- `entries_fit::lengths_of_elements` meets its contract: at place i the sum so far and the lengths from i on make up the whole.
--- Assumes nothing.
-use Prim.Native.Nat.{_+_, _*_, _-_, _≤_, _<_}
+-- `entries_fit::lengths_of_elements` meets its contract: the four are added in order. Assumes nothing.
 use native.Mathlib.Omega.{arith}
-use mathlib.Core.Path.{_≡_}
-use mathlib.Core.List.{_∷_}
-use lib.ListN.{length, drop, drop-of-length-le}
+use mathlib.Core.Path.{refl}
 use borrow.Author.Needs.{needs}
-use Rattle.rules.specs.Choice.{sumOf}
-use Rattle.rules.specs.Table.{lengthAt}
-use Rattle.rules.specs.Terms.{elements}
-use Rattle.entries_fit.proofs.Elements.{elements-four, next-element, sum-next, sum-done}
+use Rattle.entries_fit.proofs.Elements.{lengths-are}
 use Rattle.entries_fit.proofs.lengths_of_elements.Statement.{statement}
 use Rattle.entries_fit.proofs.lengths_of_elements.Tie as tie
 
-abbrev Inv-loop : tie.InvT-loop
-Inv-loop t e n sum₀ i₀ sum i =
-    (i ≤ n) × (sum ≤ 65535 * i)
-    × (sum + sumOf (lengthAt t) (drop i (elements t (e .0))) ≡ sumOf (lengthAt t) (elements t (e .0)))
+element-length-requires : tie.Need-element-length-requires
+element-length-requires c κs = search needs
 
-abbrev μ-loop : tie.MeasureT-loop
-μ-loop t e n sum₀ i₀ sum i = n - i
+element-length-requires-2 : tie.Need-element-length-requires-2
+element-length-requires-2 c κs = search needs
 
-element-count-requires : tie.Need-element-count-requires Inv-loop μ-loop
-element-count-requires c κs = search needs
+element-length-requires-3 : tie.Need-element-length-requires-3
+element-length-requires-3 c κs = search needs
 
-loop-holds : tie.Need-loop-holds Inv-loop μ-loop
-loop-holds c = (omega arith, omega arith, omega arith)
+element-length-requires-4 : tie.Need-element-length-requires-4
+element-length-requires-4 c κs = search needs
 
-add-word : tie.Need-add-word Inv-loop μ-loop
-add-word c =
-    let b = c .before .before in
-    omega (arith, b .element-count .ensures, elements-four (b .before .before .args .t .now) (b .before .before .args .e .0))
+cast-result : tie.Need-cast-result
+cast-result c = search needs
 
-word-requires : tie.Need-word-requires Inv-loop μ-loop
-word-requires c κs = search needs
+cast-result-2 : tie.Need-cast-result-2
+cast-result-2 c = search needs
 
-length-requires : tie.Need-length-requires Inv-loop μ-loop
-length-requires c κs = search needs
+add-result : tie.Need-add-result
+add-result c = search needs
 
-cast-sum : tie.Need-cast-sum Inv-loop μ-loop
-cast-sum c = search needs
+cast-result-3 : tie.Need-cast-result-3
+cast-result-3 c = search needs
 
-add-sum : tie.Need-add-sum Inv-loop μ-loop
-add-sum c =
-    let b = c .before .before .before .before in
-    omega (arith, b .element-count .ensures, elements-four (b .before .before .args .t .now) (b .before .before .args .e .0))
+add-result-2 : tie.Need-add-result-2
+add-result-2 c = search needs
 
-add-i : tie.Need-add-i Inv-loop μ-loop
-add-i c = search needs
+cast-result-4 : tie.Need-cast-result-4
+cast-result-4 c = search needs
 
-loop-less : tie.Need-loop-less Inv-loop μ-loop
-loop-less c = search needs
+add-result-3 : tie.Need-add-result-3
+add-result-3 c = search needs
 
-loop-again : tie.Need-loop-again Inv-loop μ-loop
-loop-again c =
-    let b = c .before .before .before in
-    let t = b .before .before .before .args .t .now in
-    let e = b .before .before .before .args .e .0 in
-    let i = b .loop .i in
-    let x = c .before .word .result in
-    let l : i < length (elements t e) = rw (b .before .element-count .ensures) at (c .before .before .loop-test .taken) in
-    let here : drop i (elements t e) ≡ x ∷ drop (i + 1) (elements t e) = rw (c .before .word .ensures) (next-element t e i l) in
-    (omega arith, omega arith, omega (arith, c .length .ensures, b .loop .inv .2, sum-next (elements t e) i x here (lengthAt t)))
-
-returns : tie.Need-returns Inv-loop μ-loop
+returns : tie.Need-returns
 returns c =
-    let b = c .before .before in
-    let t = b .before .before .args .t .now in
-    let e = b .before .before .args .e .0 in
-    let i = c .before .loop .i in
-    let past : length (elements t e) ≤ i = rw (b .element-count .ensures) at (c .loop-test .left) in
-    let none = sum-done (elements t e) i (drop-of-length-le (elements t e) past) (lengthAt t) in
-    (omega (arith, c .before .loop .inv .2, none), omega (arith, b .element-count .ensures, elements-four t e))
+    let row = c .before .before .before .before .before .pre in (
+      rw (
+        lengths-are,
+        c .before .before .before .element-length .ensures,
+        c .before .before .element-length2 .ensures,
+        c .before .element-length3 .ensures,
+        c .element-length4 .ensures,
+        ← row .counts,
+        ← row .firsts,
+        ← row .seconds,
+        ← row .thirds,
+        ← row .fourths,
+      )
+          refl,
+      omega arith,
+    )
 
 pub lengths-of-elements-spec : {M : Type 1} → statement M
 lengths-of-elements-spec =
     tie.close
     (tie.spec
-    Inv-loop
-    μ-loop
-    element-count-requires
-    loop-holds
-    add-word
-    word-requires
-    length-requires
-    cast-sum
-    add-sum
-    add-i
-    loop-less
-    loop-again
+    element-length-requires
+    element-length-requires-2
+    element-length-requires-3
+    element-length-requires-4
+    cast-result
+    cast-result-2
+    add-result
+    cast-result-3
+    add-result-2
+    cast-result-4
+    add-result-3
     returns)

@@ -17,10 +17,7 @@ returns : tie.Need-returns
 unfolding typeFits
 returns c =
     let early : c .before .before .before .before .args .e .0 ≤ c .before .last-key .result = c .if1 .taken in
-    rw (le-leb _ _ (rw (c .before .last-key .ensures) at early)) refl
-
-kind-requires : tie.Need-kind-requires
-kind-requires c κs = search needs
+    rw (le-leb _ _ (rw (c .before .last-key .ensures, c .before .before .before .before .pre .0) at early)) refl
 
 is-later-type-requires : tie.Need-is-later-type-requires
 is-later-type-requires c κs = search needs
@@ -28,10 +25,9 @@ is-later-type-requires c κs = search needs
 returns-2 : tie.Need-returns-2
 unfolding typeFits
 returns-2 c =
-    let late : c .before .before .before .last-key .result < c .before .before .before .before .before .before .args .e .0 = c .before .before .if1 .left in
-    rw (lt-leb _ _ (rw (c .before .before .before .last-key .ensures) at late), ← c .before .kind .ensures) (c .is-later-type .ensures)
+    let late : c .before .before .last-key .result < c .before .before .before .before .before .args .e .0 = c .before .if1 .left in
+    rw (lt-leb _ _ (rw (c .before .before .last-key .ensures, c .before .before .before .before .before .pre .0) at late), ← c .before .before .before .before .before .pre .1 .kinds) (c .is-later-type .ensures)
 
 pub type-fits-spec : {M : Type 1} → statement M
 type-fits-spec =
-    tie.close
-    (tie.spec cast-if1 last-key-requires returns kind-requires is-later-type-requires returns-2)
+    tie.close (tie.spec cast-if1 last-key-requires returns is-later-type-requires returns-2)

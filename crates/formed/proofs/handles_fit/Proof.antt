@@ -3,7 +3,7 @@ use mathlib.Core.Path.{sym}
 use Rattle.rules.specs.WellFormed.{handlesFit}
 use Rattle.rules.proofs.Logic.{and-stops, and-goes}
 use borrow.Author.Needs.{needs}
-use Rattle.formed.proofs.Counting.{and-true}
+use Rattle.entries_fit.proofs.Elements.{and-true}
 use Rattle.formed.proofs.handles_fit.Statement.{statement}
 use Rattle.formed.proofs.handles_fit.Tie as tie
 
