@@ -334,15 +334,15 @@ fn cut_entry_fits(t: &[u16], n: u16, e: Entry) -> bool
 {
     let row = read_cut_row(t, e);
     if !type_fits(t, n, e, row) {
-        return false; // W5, cut
+        return false; // cut, W5
     }
     if !count_fits(t, e, row) {
-        return false; // W6, cut
+        return false; // cut, W6
     }
     if !unused_are_zero(t, e, row) {
-        return false; // W7, cut
+        return false; // cut, W7
     }
-    may_be_empty(t, e, row) // W8 to W10, cut
+    may_be_empty(t, e, row) // cut, W8 to W10
 }
 
 // The end of the run cuts the numbers of entry e.
