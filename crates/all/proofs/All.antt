@@ -21,6 +21,8 @@ use Rattle.text.proofs as text
 use Rattle.text.proofs.Unique as text-unique
 use Rattle.room.proofs as room
 use Rattle.room.proofs.Unique as room-unique
+use Rattle.beside.proofs as beside
+use Rattle.beside.proofs.Unique as beside-unique
 use Rattle.commands.proofs as commands
 use Rattle.commands.proofs.Unique as commands-unique
 use Rattle.messages.proofs as messages
@@ -170,6 +172,9 @@ room·give = room-unique.give
 
 pub room·give-new : Tight room.give_new.ended (λ M. room.give_new.clauses)
 room·give-new = room-unique.give-new
+
+pub beside·list-is-asked : Tight beside.list_is_asked.ended (λ M. beside.list_is_asked.clauses)
+beside·list-is-asked = beside-unique.list-is-asked
 
 pub commands·store : Tight commands.store.ended (λ M. commands.store.clauses)
 commands·store = commands-unique.store

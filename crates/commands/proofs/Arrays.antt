@@ -1,39 +1,26 @@
--- Arrays of four handles or entries: their numbers, and tests and sums over the first of them, one further. Assumes nothing.
+-- Arrays of four entries: their numbers; tests and sums over the first numbers of an array, one further; and the first of four handles put
+-- through a function. Assumes nothing.
 use Prim.Native.Nat.{ℕ, zero, suc, _+_, _≤_, _<_}
 use native.Mathlib.Numerals.{add-one}
 use native.Mathlib.Omega.{arith}
 use mathlib.Core.Path.{_≡_, refl, sym, ap, _∙_}
 use mathlib.Core.Bool.{Bool, true, false}
 use mathlib.Core.List.{List, [], _∷_, _++_, map}
-use lib.ListN.{length, getD, set, take, drop, replicate}
-use lib.Seq.{drop-cons}
-use borrow.Author.Tests.{eq-eqb, ne-eqb}
-use Rattle.rules.specs.Choice.{every, sumOf, isZero}
+use lib.ListN.{length, getD, set, take, replicate}
+use Rattle.rules.specs.Choice.{every, sumOf}
 use Rattle.rules.specs.declared.Entry.{Entry}
 use Rattle.rules.specs.declared.Handle.{Handle}
 use Rattle.rules.proofs.Logic.{and-left, and-right, both, never, every-at, mem-take}
 use Rattle.terms.specs.Elements.{numbers}
-use Rattle.commands.specs.Beside.{handleNumbers}
+use Rattle.beside.specs.Beside.{numbersBeside}
 
--- ---- number i of an array
-abbrev pub handleAt : List Handle → ℕ → ℕ
-handleAt hs i = getD hs i (record { 0 = 0 }) .0
-
+-- ---- the numbers of an array
 abbrev pub entryAt : List Entry → ℕ → ℕ
 entryAt es i = getD es i (record { 0 = 0 }) .0
-
-pub handles-length : (hs : List Handle) → length (handleNumbers hs) ≡ length hs
-handles-length [] = refl
-handles-length (h ∷ hs) = ap suc (handles-length hs)
 
 pub entries-length : (es : List Entry) → length (numbers es) ≡ length es
 entries-length [] = refl
 entries-length (e ∷ es) = ap suc (entries-length es)
-
-pub handle-at : (hs : List Handle) (i : ℕ) → getD (handleNumbers hs) i 0 ≡ handleAt hs i
-handle-at [] i = refl
-handle-at (h ∷ hs) zero = refl
-handle-at (h ∷ hs) (suc i) = handle-at hs i
 
 pub entry-at : (es : List Entry) (i : ℕ) → getD (numbers es) i 0 ≡ entryAt es i
 entry-at [] i = refl
@@ -80,22 +67,6 @@ sum-suc f (suc i) (x ∷ xs) h = omega (arith, sum-suc f i xs (omega arith))
 pub sum-next : (f : ℕ → ℕ) (i : ℕ) (xs : List ℕ) → i < length xs → sumOf f (take (i + 1) xs) ≡ sumOf f (take i xs) + f (getD xs i 0)
 sum-next f i xs h = rw add-one (sum-suc f i xs h)
 
--- ---- zeros from number i on
-pub zeros-next : (i : ℕ) (xs : List ℕ) → i < length xs → getD xs i 0 ≡ 0 → every isZero (drop i xs) ≡ every isZero (drop (i + 1) xs)
-unfolding every isZero
-zeros-next i xs h q = rw (drop-cons xs i 0 h, eq-eqb (getD xs i 0) 0 q, add-one i) refl
-
-pub zeros-fail : (i : ℕ) (xs : List ℕ) → i < length xs → (getD xs i 0 ≡ 0 → ⊥) → every isZero (drop i xs) ≡ false
-unfolding every isZero
-zeros-fail i xs h q = rw (drop-cons xs i 0 h, ne-eqb (getD xs i 0) 0 q) refl
-
-pub zeros-end : (i : ℕ) (xs : List ℕ) → length xs ≤ i → every isZero (drop i xs) ≡ true
-unfolding every
-zeros-end zero [] h = refl
-zeros-end (suc i) [] h = refl
-zeros-end zero (x ∷ xs) h = absurd (omega arith)
-zeros-end (suc i) (x ∷ xs) h = zeros-end i xs (omega arith)
-
 -- ---- the first i numbers through f, and zeros after them
 abbrev pub through : (ℕ → ℕ) → ℕ → List ℕ → List ℕ
 through f i [] = []
@@ -110,36 +81,23 @@ through-suc f (suc i) (x ∷ xs) = ap (λ (ys : List ℕ). f x ∷ ys) (through-
 pub through-next : (f : ℕ → ℕ) (i : ℕ) (xs : List ℕ) → set (through f i xs) i (f (getD xs i 0)) ≡ through f (i + 1) xs
 through-next f i xs = rw add-one (through-suc f i xs)
 
-module _ (f : ℕ → ℕ) where
-  pub through-none : (xs : List ℕ) → length xs ≡ 4 → through f 0 xs ≡ 0 ∷ 0 ∷ 0 ∷ 0 ∷ []
-  through-none [] h = absurd (omega arith)
-  through-none (a ∷ []) h = absurd (omega arith)
-  through-none (a ∷ b ∷ []) h = absurd (omega arith)
-  through-none (a ∷ b ∷ c ∷ []) h = absurd (omega arith)
-  through-none (a ∷ b ∷ c ∷ d ∷ []) h = refl
-  through-none (a ∷ b ∷ c ∷ d ∷ e ∷ xs) h = absurd (omega arith)
-
+-- of the numbers beside a command
+module _ (f : ℕ → ℕ) (hs : List Handle) where
   -- all four with the zeros, and the first n of them
-  pub through-all : (n : ℕ) (xs : List ℕ) → n ≤ 4 → length xs ≡ 4
-      → (through f n xs ≡ take 4 (map f (take n xs) ++ replicate 4 0)) × (take n (through f n xs) ≡ map f (take n xs))
-  through-all n [] l h = absurd (omega arith)
-  through-all n (a ∷ []) l h = absurd (omega arith)
-  through-all n (a ∷ b ∷ []) l h = absurd (omega arith)
-  through-all n (a ∷ b ∷ c ∷ []) l h = absurd (omega arith)
-  through-all zero (a ∷ b ∷ c ∷ d ∷ []) l h = (refl, refl)
-  through-all (suc zero) (a ∷ b ∷ c ∷ d ∷ []) l h = (refl, refl)
-  through-all (suc (suc zero)) (a ∷ b ∷ c ∷ d ∷ []) l h = (refl, refl)
-  through-all (suc (suc (suc zero))) (a ∷ b ∷ c ∷ d ∷ []) l h = (refl, refl)
-  through-all (suc (suc (suc (suc zero)))) (a ∷ b ∷ c ∷ d ∷ []) l h = (refl, refl)
-  through-all (suc (suc (suc (suc (suc n))))) (a ∷ b ∷ c ∷ d ∷ []) l h = absurd (omega arith)
-  through-all n (a ∷ b ∷ c ∷ d ∷ e ∷ xs) l h = absurd (omega arith)
+  pub through-all : (n : ℕ) → n ≤ 4
+      → (through f n (numbersBeside hs) ≡ take 4 (map f (take n (numbersBeside hs)) ++ replicate 4 0))
+      × (take n (through f n (numbersBeside hs)) ≡ map f (take n (numbersBeside hs)))
+  through-all zero l = (refl, refl)
+  through-all (suc zero) l = (refl, refl)
+  through-all (suc (suc zero)) l = (refl, refl)
+  through-all (suc (suc (suc zero))) l = (refl, refl)
+  through-all (suc (suc (suc (suc zero)))) l = (refl, refl)
+  through-all (suc (suc (suc (suc (suc n))))) l = absurd (omega arith)
 
--- what stands for it, where the first n of the four are read again
-pub padded-take : (f : ℕ → ℕ) (n : ℕ) (xs ys : List ℕ) → n ≤ 4 → length xs ≡ 4 → ys ≡ take 4 (map f (take n xs) ++ replicate 4 0)
-    → take n ys ≡ map f (take n xs)
-padded-take f n xs ys l h q =
-    ap (λ (zs : List ℕ). take n zs) (q ∙ sym (through-all f n xs l h .0)) ∙ through-all f n xs l h .1
+  -- what stands for it, where the first n of the four are read again
+  module _ (n : ℕ) (l : n ≤ 4) (ys : List ℕ) (q : ys ≡ take 4 (map f (take n (numbersBeside hs)) ++ replicate 4 0)) where
+    pub padded-take : take n ys ≡ map f (take n (numbersBeside hs))
+    padded-take = ap (λ (zs : List ℕ). take n zs) (q ∙ sym (through-all n l .0)) ∙ through-all n l .1
 
-pub padded-again : (f : ℕ → ℕ) (n : ℕ) (xs ys : List ℕ) → n ≤ 4 → length xs ≡ 4 → ys ≡ take 4 (map f (take n xs) ++ replicate 4 0)
-    → ys ≡ take 4 (take n ys ++ replicate 4 0)
-padded-again f n xs ys l h q = q ∙ ap (λ (zs : List ℕ). take 4 (zs ++ replicate 4 0)) (sym (padded-take f n xs ys l h q))
+    pub padded-again : ys ≡ take 4 (take n ys ++ replicate 4 0)
+    padded-again = q ∙ ap (λ (zs : List ℕ). take 4 (zs ++ replicate 4 0)) (sym padded-take)

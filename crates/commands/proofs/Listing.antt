@@ -1,43 +1,23 @@
 -- The ways that making a list goes (rule C3). Assumes nothing.
-use Prim.Native.Nat.{ℕ, _+_, _≤_, _<_}
+use Prim.Native.Nat.{ℕ, _+_, _≤_}
 use native.Mathlib.Omega.{arith}
 use mathlib.Core.Path.{_≡_, refl, sym, ap, _∙_}
 use mathlib.Core.Bool.{true, false}
 use mathlib.Core.List.{List, [], _∷_, _++_, map}
-use lib.Dec.{leb}
-use lib.ListN.{length, take, drop, replicate, length-take}
-use borrow.Author.Tests.{le-leb, lt-leb, eq-eqb, ne-eqb, leb-true}
-use Rattle.rules.specs.Choice.{every, sumOf, isZero}
+use lib.ListN.{length, take, replicate, length-take}
+use borrow.Author.Tests.{eq-eqb, ne-eqb}
+use Rattle.rules.specs.Choice.{every, sumOf}
 use Rattle.rules.specs.Table.{Table, typeAt, lengthAt}
 use Rattle.rules.specs.Terms.{list, typeOf, argumentsOf, numbersOf, listLength, lengthOf, newEntry, addEntry, findList}
 use Rattle.rules.specs.Handles.{entryOf, holdsHandle}
 use Rattle.rules.specs.Outcome.{gives, refused, needRoom, givesHandle}
 use Rattle.rules.specs.Commands.{giveNew, giveFoundOrNew, listIsAsked, mayBeListed, makeListOf, makeList}
 use Rattle.rules.specs.declared.Entry.{Entry}
-use Rattle.rules.proofs.Logic.{and-left, and-right}
 use Rattle.rules.proofs.Needs.{need-goes}
 use Rattle.rows.specs.Row.{seven}
 use Rattle.terms.specs.Elements.{numbers}
 use Rattle.commands.proofs.Ways.{need-fails, gives-new}
 use Rattle.commands.proofs.Arrays.{entryAt, entries-length}
-
--- ---- whether a list is asked for
-module _ (k : ℕ) (hs : List ℕ) where
-  pub asked-none : k < 1 → listIsAsked k hs ≡ false
-  unfolding listIsAsked
-  asked-none h = rw (lt-leb 1 k h) refl
-
-  pub asked-many : 1 ≤ k → 4 < k → listIsAsked k hs ≡ false
-  unfolding listIsAsked
-  asked-many l h = rw (le-leb 1 k l, lt-leb k 4 h) refl
-
-  pub asked-few : 1 ≤ k → k ≤ 4 → listIsAsked k hs ≡ every isZero (drop k hs)
-  unfolding listIsAsked
-  asked-few l h = rw (le-leb 1 k l, le-leb k 4 h) refl
-
-  pub asked-fits : listIsAsked k hs ≡ true → k ≤ 4
-  unfolding listIsAsked
-  asked-fits p = leb-true k 4 (and-left (leb k 4) _ (and-right (leb 1 k) _ p))
 
 -- ---- what may not be listed
 pub secret : (t : Table) (e y : ℕ) → y ≡ typeAt t e → y ≡ 5 → mayBeListed t e ≡ false

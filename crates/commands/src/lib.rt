@@ -7,10 +7,10 @@ ghost use lib.ListN.{take, replicate};
 ghost use Rattle.rules.specs.Choice.{every, sumOf};
 ghost use Rattle.rules.specs.Table.{lengthAt};
 ghost use Rattle.rules.specs.Handles.{entryOf, holdsHandle};
-ghost use Rattle.rules.specs.Commands.{store, newNonce, listIsAsked, mayBeListed, makeListOf, makeList, isPlace, projectOf, project, encryptOf, encrypt, decryptOf, decrypt, valueOf, parse};
+ghost use Rattle.rules.specs.Commands.{store, newNonce, mayBeListed, makeListOf, makeList, isPlace, projectOf, project, encryptOf, encrypt, decryptOf, decrypt, valueOf, parse};
 ghost use Rattle.rules.specs.Meaning.{said};
 ghost use Rattle.terms.specs.Elements.{numbers};
-ghost use Rattle.commands.specs.Beside.{handleNumbers};
+ghost use Rattle.beside.specs.Beside.{numbersBeside};
 use rules::Answer;
 use rules::Entry;
 use rules::Found;
@@ -35,27 +35,6 @@ pub fn nonce(t: &mut [u16]) -> Answer
     room::give_new(t, 2, 2, [0; 4], 8)
 }
 
-// A list can be asked for by 1 to 4 handles, and zeros after them.
-fn list_is_asked(count: u16, handles: [Handle; 4]) -> bool
-    ensures { λ r. ⌜ r ≡ listIsAsked count (handleNumbers handles) ⌝ }
-{
-    if count < 1 {
-        return false;
-    }
-    if 4 < count {
-        return false;
-    }
-    let mut i = count;
-    while i < 4 {
-        let h = handles[i as usize];
-        if h.0 != 0 {
-            return false;
-        }
-        i += 1;
-    }
-    true
-}
-
 // Handles looked up: whether knower 0 holds each of them, and if so their entries, with zeros after them.
 struct LookedUp {
     held: bool,
@@ -64,8 +43,8 @@ struct LookedUp {
 
 fn look_up(t: &[u16], count: u16, handles: [Handle; 4]) -> LookedUp
     requires { ⌜ count ≤ 4 ⌝ }
-    ensures { λ r. ⌜ r .held ≡ every (holdsHandle (now (t .entry)) 0) (take count (handleNumbers handles)) ⌝ }
-    ensures { λ r. ⌜ (r .held ≡ true → numbers (r .entries) ≡ take 4 (map (entryOf (now (t .entry)) 0) (take count (handleNumbers handles)) ++ replicate 4 0)) ⌝ }
+    ensures { λ r. ⌜ r .held ≡ every (holdsHandle (now (t .entry)) 0) (take count (numbersBeside handles)) ⌝ }
+    ensures { λ r. ⌜ (r .held ≡ true → numbers (r .entries) ≡ take 4 (map (entryOf (now (t .entry)) 0) (take count (numbersBeside handles)) ++ replicate 4 0)) ⌝ }
 {
     let mut entries = [Entry(0); 4];
     let mut i: u16 = 0;
@@ -141,10 +120,10 @@ fn make_list_of(t: &mut [u16], count: u16, elements: [Entry; 4]) -> Answer
 
 // C3: the list of what `count` handles name.
 pub fn list(t: &mut [u16], count: u16, handles: [Handle; 4]) -> Answer
-    ensures { λ r. ⌜ said r ≡ makeList (now (t .entry)) count (handleNumbers handles) .answer ⌝ }
-    ensures { λ _. ⌜ now (t .exit) ≡ makeList (now (t .entry)) count (handleNumbers handles) .table ⌝ }
+    ensures { λ r. ⌜ said r ≡ makeList (now (t .entry)) count (numbersBeside handles) .answer ⌝ }
+    ensures { λ _. ⌜ now (t .exit) ≡ makeList (now (t .entry)) count (numbersBeside handles) .table ⌝ }
 {
-    if !list_is_asked(count, handles) {
+    if !beside::list_is_asked(count, handles) {
         return Answer::Refused(4);
     }
     let found = look_up(t, count, handles);

@@ -30,7 +30,7 @@ use Rattle.rules.proofs.Formed.{knower-at}
 use Rattle.rules.proofs.Meaning.{unsaid, said-injective}
 use Rattle.rules.proofs.Answers.{answer-said}
 use Rattle.rules.proofs.Ready.{ready-counts}
-use Rattle.commands.specs.Beside.{handleNumbers}
+use Rattle.beside.specs.Beside.{numbersBeside}
 use Rattle.machine.proofs.Unique as unique
 use Rattle.machine.proofs as own
 
@@ -52,7 +52,7 @@ areWords = every (λ x. leb x largest)
 
 unfoldable pub canBePassed : Command → List Handle → Table → Bool
 canBePassed c hs t =
-    areWords (commandNumbers c) and eqb (length hs) 4 and areWords (handleNumbers hs) and areWords t and ltb (2 * length t) (2 ^ 63)
+    areWords (commandNumbers c) and eqb (length hs) 4 and areWords (numbersBeside hs) and areWords t and ltb (2 * length t) (2 ^ 63)
 
 -- ---- the machines
 abbrev called : Ended

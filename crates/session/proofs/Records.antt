@@ -5,23 +5,22 @@ use native.Mathlib.Numerals.{add-one}
 use native.Mathlib.Nat.{zero-add, add-zero, add-suc, suc-add}
 use native.Mathlib.Decide.{ℕ-discrete}
 use mathlib.Core.Path.{_≡_, refl, sym, ap, _∙_}
-use mathlib.Core.Bool.{Bool, true, false}
+use mathlib.Core.Bool.{true, false}
 use mathlib.Core.List.{List, [], _∷_, _++_}
-use lib.Dec.{eqb, leb}
-use lib.ListN.{length, getD, take, drop, set, drop-of-length-le, List·getD-eq-default}
-use lib.Seq.{sets, sets-eq, take-suc, drop-cons, length-take-le}
-use borrow.Author.Tests.{le-leb, lt-leb, eq-eqb, ne-eqb, leb-true}
-use Rattle.rules.specs.Choice.{_and_, every, isZero}
-use Rattle.rules.specs.Commands.{listIsAsked}
+use lib.Dec.{eqb}
+use lib.ListN.{length, getD, take, set, List·getD-eq-default}
+use lib.Seq.{sets, sets-eq, take-suc, length-take-le}
+use borrow.Author.Tests.{le-leb, lt-leb, ne-eqb}
 use Rattle.rules.specs.Machine.{Record, SetUp, Asks, Start, Deliver, Store, Nonce, MakeList, Project, Encrypt, Decrypt, Parse}
 use Rattle.rules.specs.Session.{Reading, found, malformed, ended, number, bodyLengths, isWithin, recordOf, bodyNumber, readBody, kindOf, valuesOf, twoBytes, bytesOf, bodyLength, recordBytes, hasRecord, writeRecord, refusal, bytes}
 use Rattle.rules.specs.Meaning.{besideAt, asked}
-use Rattle.rules.proofs.Logic.{and-left, and-right}
 use Rattle.rules.proofs.RoundTrip.{body-found}
 use Rattle.rules.specs.declared.Handle.{Handle}
 use Rattle.rules.specs.declared.Command.{Command}
 use Rattle.rules.specs.declared.Command.the-variants.{SetUp as SetUpᶜ, Start as Startᶜ, Deliver as Deliverᶜ, Store as Storeᶜ, Nonce as Nonceᶜ, List as Listᶜ, Project as Projectᶜ, Encrypt as Encryptᶜ, Decrypt as Decryptᶜ, Parse as Parseᶜ}
-use Rattle.session.specs.Session.{handleOf, fourHandles, numbersBeside, besideRecord, beside, commandOf, handlesOf, countOf}
+use Rattle.beside.specs.Beside.{numbersBeside}
+use Rattle.beside.proofs.Asked.{asked-fits}
+use Rattle.session.specs.Session.{handleOf, fourHandles, besideRecord, beside, commandOf, handlesOf, countOf}
 
 -- one number more is ruled out
 pub up : (k n : ℕ) → n ≤ k → (k ≡ n → ⊥) → n + 1 ≤ k
@@ -114,38 +113,7 @@ four-long (found (Asks (Parse h)) next) = refl
 four-long malformed = refl
 four-long ended = refl
 
-number-beside : (hs : List Handle) (i : ℕ) → i < 4 → getD (numbersBeside hs) i 0 ≡ besideAt hs i
-unfolding numbersBeside
-number-beside hs zero h = refl
-number-beside hs (suc zero) h = refl
-number-beside hs (suc (suc zero)) h = refl
-number-beside hs (suc (suc (suc zero))) h = refl
-number-beside hs (suc (suc (suc (suc i)))) h = absurd (omega arith)
-
-zeros-more : (xs : List ℕ) (i : ℕ) → i < length xs → every isZero (drop i xs) ≡ (eqb (getD xs i 0) 0 and every isZero (drop (i + 1) xs))
-unfolding every isZero
-zeros-more xs i h = rw (add-one, drop-cons xs i 0 h) refl
-
-module _ (hs : List Handle) (i : ℕ) {b : Bool} (e : b ≡ every isZero (drop i (numbersBeside hs))) where
-  four-more : i < 4 → b ≡ (eqb (besideAt hs i) 0 and every isZero (drop (i + 1) (numbersBeside hs)))
-  unfolding numbersBeside
-  four-more h = e ∙ zeros-more (numbersBeside hs) i h ∙ rw (number-beside hs i h) refl
-
-  pub zeros-next : i < 4 → besideAt hs i ≡ 0 → b ≡ every isZero (drop (i + 1) (numbersBeside hs))
-  zeros-next h z = four-more h ∙ rw (eq-eqb _ _ z) refl
-
-  pub zeros-stop : i < 4 → (besideAt hs i ≡ 0 → ⊥) → false ≡ b
-  zeros-stop h z = sym (four-more h ∙ rw (ne-eqb _ _ z) refl)
-
-  pub zeros-end : 4 ≤ i → true ≡ b
-  unfolding every numbersBeside
-  zeros-end h = sym (e ∙ rw (drop-of-length-le (numbersBeside hs) h) refl)
-
 -- a command that has a record has no more than four numbers
-list-small : (k : ℕ) (hs : List ℕ) → listIsAsked k hs ≡ true → k ≤ 4
-unfolding listIsAsked
-list-small k hs e = leb-true k 4 (and-left (leb k 4) _ (and-right (leb 1 k) _ e))
-
 pub count-small : (c : Command) (hs : List Handle) → hasRecord (asked c hs) ≡ true → countOf c ≤ 4
 unfolding hasRecord asked countOf
 count-small (SetUpᶜ n m c) hs e = omega arith
@@ -153,7 +121,7 @@ count-small (Startᶜ u v) hs e = omega arith
 count-small (Deliverᶜ s r h) hs e = omega arith
 count-small (Storeᶜ d) hs e = omega arith
 count-small Nonceᶜ hs e = omega arith
-count-small (Listᶜ k) hs e = list-small k _ e
+count-small (Listᶜ k) hs e = asked-fits k _ e
 count-small (Projectᶜ h i) hs e = omega arith
 count-small (Encryptᶜ k l) hs e = omega arith
 count-small (Decryptᶜ k c) hs e = omega arith
@@ -167,7 +135,7 @@ count-long (Deliverᶜ s r h) hs e = refl
 count-long (Storeᶜ d) hs e = refl
 count-long Nonceᶜ hs e = refl
 count-long (Listᶜ k) hs e =
-    length-take-le k (besideAt hs 0 ∷ besideAt hs 1 ∷ besideAt hs 2 ∷ besideAt hs 3 ∷ []) (list-small k _ e)
+    length-take-le k (numbersBeside hs) (asked-fits k _ e)
 count-long (Projectᶜ h i) hs e = refl
 count-long (Encryptᶜ k l) hs e = refl
 count-long (Decryptᶜ k c) hs e = refl

@@ -6,7 +6,7 @@ use lib.ListN.{getD}
 use Rattle.rules.specs.Choice.{if_then_else_}
 use Rattle.rules.specs.Machine.{Record, SetUp, Asks, Start, Deliver, Store, Nonce, MakeList, Project, Encrypt, Decrypt, Parse}
 use Rattle.rules.specs.Session.{Reading, found, malformed, ended, Written as Wrote, bytes, refusal}
-use Rattle.rules.specs.Meaning.{besideAt, asked}
+use Rattle.rules.specs.Meaning.{asked}
 use Rattle.rules.specs.declared.Handle.{Handle}
 use Rattle.rules.specs.declared.Command.{Command}
 use Rattle.rules.specs.declared.Command.the-variants.{SetUp as SetUpᶜ, Start as Startᶜ, Deliver as Deliverᶜ, Store as Storeᶜ, Nonce as Nonceᶜ, List as Listᶜ, Project as Projectᶜ, Encrypt as Encryptᶜ, Decrypt as Decryptᶜ, Parse as Parseᶜ}
@@ -39,9 +39,6 @@ handleOf h = record { 0 = h }
 
 unfoldable pub fourHandles : ℕ → ℕ → ℕ → ℕ → List Handle
 fourHandles a b c d = handleOf a ∷ handleOf b ∷ handleOf c ∷ handleOf d ∷ []
-
-unfoldable pub numbersBeside : List Handle → List ℕ
-numbersBeside hs = besideAt hs 0 ∷ besideAt hs 1 ∷ besideAt hs 2 ∷ besideAt hs 3 ∷ []
 
 -- those of a record: a list's own, zeros beside any other
 unfoldable pub besideRecord : Record → List Handle

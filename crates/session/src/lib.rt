@@ -5,10 +5,9 @@ ghost use mathlib.Core.List.{List};
 ghost use Prim.Native.Nat.{_+_, _*_, _≤_};
 ghost use lib.ListN.{getD, length, take};
 ghost use lib.Seq.{sets};
-ghost use Rattle.rules.specs.Commands.{listIsAsked};
 ghost use Rattle.rules.specs.Session.{number, bodyLengths, isWithin, bodyNumber, readBody, readRecord, kindOf, valuesOf, twoBytes, bytesOf, hasRecord, writeRecord};
 ghost use Rattle.rules.specs.Meaning.{asked};
-ghost use Rattle.session.specs.Session.{lengthsAs, readAs, writtenAs, numbersBeside, beside, commandOf, handlesOf, countOf};
+ghost use Rattle.session.specs.Session.{lengthsAs, readAs, writtenAs, beside, commandOf, handlesOf, countOf};
 ghost use Rattle.rules.specs.declared.Handle.{Handle};
 use rules::Command;
 use rules::Handle;
@@ -194,26 +193,6 @@ pub fn read_record(file: &[u8], at: usize) -> Read
     read_body(file, at + 2, number(file, at))
 }
 
-// A list that can be asked for: 1 to 4 handles, and zeros after them.
-fn list_is_asked(k: u16, handles: [Handle; 4]) -> bool
-    ensures { λ r. ⌜ r ≡ listIsAsked k (numbersBeside handles) ⌝ }
-{
-    if k < 1 {
-        return false;
-    }
-    if 4 < k {
-        return false;
-    }
-    let mut i = k as usize;
-    while i < 4 {
-        if handles[i].0 != 0 {
-            return false;
-        }
-        i += 1;
-    }
-    true
-}
-
 // Only a list can be asked for in a way that has no record.
 fn has_record(c: Command, handles: [Handle; 4]) -> bool
     ensures { λ r. ⌜ r ≡ hasRecord (asked c handles) ⌝ }
@@ -224,7 +203,7 @@ fn has_record(c: Command, handles: [Handle; 4]) -> bool
         Command::Deliver(_, _, _) => true,
         Command::Store(_) => true,
         Command::Nonce => true,
-        Command::List(k) => list_is_asked(k, handles),
+        Command::List(k) => beside::list_is_asked(k, handles),
         Command::Project(_, _) => true,
         Command::Encrypt(_, _) => true,
         Command::Decrypt(_, _) => true,

@@ -4,10 +4,10 @@ use mathlib.Core.Path.{refl, sym, _∙_}
 use borrow.Author.Tests.{not-true, not-false}
 use Rattle.rules.specs.Handles.{entryOf}
 use Rattle.rules.specs.Meaning.{said}
-use Rattle.commands.specs.Beside.{handleNumbers}
+use Rattle.beside.proofs.Asked.{asked-fits}
 use Rattle.commands.proofs.Ways.{ends}
-use Rattle.commands.proofs.Arrays.{handles-length, padded-take, padded-again}
-use Rattle.commands.proofs.Listing.{asked-fits, unasked-list, unheld-list, held-list}
+use Rattle.commands.proofs.Arrays.{padded-take, padded-again}
+use Rattle.commands.proofs.Listing.{unasked-list, unheld-list, held-list}
 use borrow.Author.Needs.{needs}
 use Rattle.commands.proofs.list.Statement.{statement}
 use Rattle.commands.proofs.list.Tie as tie
@@ -38,9 +38,8 @@ make-list-of-requires c κs =
     let f = c .before .before .before .before in
     let b = f .before .before in
     let a = b .before .before .before in
-    let hs = a .args .handles in
     let few = asked-fits _ _ (sym (b .before .list-is-asked .ensures) ∙ not-false _ (b .if1 .left)) in
-    (few, padded-again (entryOf _ 0) (a .args .count) (handleNumbers hs) _ few (handles-length hs ∙ a .good .1 .1 .0 .1 .0 .1) (f .look-up .ensures .1 (not-false _ (c .before .before .if2 .left))))
+    (few, padded-again (entryOf _ 0) (a .args .handles) (a .args .count) few _ (f .look-up .ensures .1 (not-false _ (c .before .before .if2 .left))))
 
 same-length-2 : tie.Need-same-length-2
 same-length-2 c = search needs
@@ -50,12 +49,11 @@ returns-3 c =
     let f = c .before .before .before .before .before .before .before in
     let b = f .before .before in
     let a = b .before .before .before in
-    let hs = a .args .handles in
     let asked = sym (b .before .list-is-asked .ensures) ∙ not-false _ (b .if1 .left) in
     let all = not-false _ (c .before .before .before .before .before .if2 .left) in
     ends
     (held-list _ _ _ _ asked (sym (f .look-up .ensures .0) ∙ all)
-    (padded-take (entryOf _ 0) (a .args .count) (handleNumbers hs) _ (asked-fits _ _ asked) (handles-length hs ∙ a .good .1 .1 .0 .1 .0 .1) (f .look-up .ensures .1 all)))
+    (padded-take (entryOf _ 0) (a .args .handles) (a .args .count) (asked-fits _ _ asked) _ (f .look-up .ensures .1 all)))
     (c .before .before .make-list-of .ensures)
 
 pub list-spec : {M : Type 1} → statement M

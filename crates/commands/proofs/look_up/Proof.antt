@@ -4,29 +4,27 @@ use Prim.Native.Nat.{_-_, _≤_}
 use native.Mathlib.Omega.{arith}
 use mathlib.Core.Path.{_≡_, refl, sym, ap, _∙_}
 use mathlib.Core.Bool.{true}
-use lib.ListN.{length, take}
+use lib.ListN.{take}
 use Rattle.rules.specs.Choice.{every}
 use Rattle.rules.specs.Handles.{entryOf, holdsHandle}
 use Rattle.rules.proofs.Logic.{never}
 use Rattle.terms.specs.Elements.{numbers}
-use Rattle.commands.specs.Beside.{handleNumbers}
-use Rattle.commands.proofs.Arrays.{handles-length, handle-at, entries-set, every-none, every-next, every-fails, through, through-next, through-none, through-all}
+use Rattle.beside.specs.Beside.{numbersBeside}
+use Rattle.beside.proofs.Asked.{number-beside}
+use Rattle.commands.proofs.Arrays.{entries-set, every-none, every-next, every-fails, through, through-next, through-all}
 use Rattle.commands.proofs.Ways.{held, held-at, unheld}
 use borrow.Author.Needs.{needs}
 use Rattle.commands.proofs.look_up.Statement.{statement}
 use Rattle.commands.proofs.look_up.Tie as tie
 
 abbrev Inv-loop : tie.InvT-loop
-Inv-loop t count handles entries₀ i₀ entries i = (i ≤ count) × (numbers entries ≡ through (entryOf t 0) i (handleNumbers handles)) × (every (holdsHandle t 0) (take i (handleNumbers handles)) ≡ true)
+Inv-loop t count handles entries₀ i₀ entries i = (i ≤ count) × (numbers entries ≡ through (entryOf t 0) i (numbersBeside handles)) × (every (holdsHandle t 0) (take i (numbersBeside handles)) ≡ true)
 
 abbrev μ-loop : tie.MeasureT-loop
 μ-loop t count handles entries₀ i₀ entries i = count - i
 
 loop-holds : tie.Need-loop-holds Inv-loop μ-loop
-loop-holds c =
-    let a = c .before in
-    let hs = a .args .t3 in
-    (search needs, sym (through-none (entryOf _ 0) (handleNumbers hs) (handles-length hs ∙ a .good .1 .1 .0 .1 .0 .1)), every-none (holdsHandle _ 0) (handleNumbers hs))
+loop-holds c = (search needs, refl, every-none (holdsHandle _ 0) (numbersBeside (c .before .args .t3)))
 
 cast-h : tie.Need-cast-h Inv-loop μ-loop
 cast-h c = search needs
@@ -51,9 +49,9 @@ returns c =
     let l = c .before .before .before .before .before in
     let a = l .before .before in
     let hs = a .args .t3 in
-    let four : length (handleNumbers hs) ≡ 4 = handles-length hs ∙ a .good .1 .1 .0 .1 .0 .1 in (
-      sym (every-fails (holdsHandle _ 0) (a .args .count) (l .loop .i) (handleNumbers hs) (omega arith) (omega arith)
-          (ap (holdsHandle _ 0) (handle-at hs (l .loop .i)) ∙ unheld _ _ _ (c .before .before .entry-of .ensures) (c .before .match .keys2))),
+    let at = number-beside hs (l .loop .i) (omega arith) in (
+      sym (every-fails (holdsHandle _ 0) (a .args .count) (l .loop .i) (numbersBeside hs) (omega arith) (omega arith)
+          (ap (holdsHandle _ 0) at ∙ unheld _ _ _ (c .before .before .entry-of .ensures) (c .before .match .keys2))),
       λ q. never q refl,
     )
 
@@ -79,20 +77,19 @@ loop-again c =
     let hs = a .args .t3 in
     let p = c .before .before .before .entry-of .ensures in
     let q = c .before .e .given .1 in
-    let at = held-at _ _ _ p _ q in (
+    let at = number-beside hs (l .loop .i) (omega arith) in (
       omega arith,
-      entries-set (l .loop .entries) (l .loop .i) _ ∙ rw (l .loop .inv .1, ← at, ← handle-at hs (l .loop .i)) (through-next (entryOf _ 0) (l .loop .i) (handleNumbers hs)),
-      every-next (holdsHandle _ 0) (l .loop .i) (handleNumbers hs) (l .loop .inv .2) (ap (holdsHandle _ 0) (handle-at hs (l .loop .i)) ∙ held _ _ _ p _ q),
+      entries-set (l .loop .entries) (l .loop .i) _ ∙ rw (l .loop .inv .1, ← held-at _ _ _ p _ q, ← at) (through-next (entryOf _ 0) (l .loop .i) (numbersBeside hs)),
+      every-next (holdsHandle _ 0) (l .loop .i) (numbersBeside hs) (l .loop .inv .2) (ap (holdsHandle _ 0) at ∙ held _ _ _ p _ q),
     )
 
 returns-2 : tie.Need-returns-2 Inv-loop μ-loop
 returns-2 c =
     let l = c .before in
     let a = l .before .before in
-    let hs = a .args .t3 in
     let end : l .loop .i ≡ a .args .count = omega arith in (
       sym (rw end at (l .loop .inv .2)),
-      λ q. (rw end at (l .loop .inv .1)) ∙ through-all (entryOf _ 0) (a .args .count) (handleNumbers hs) (omega arith) (handles-length hs ∙ a .good .1 .1 .0 .1 .0 .1) .0,
+      λ q. (rw end at (l .loop .inv .1)) ∙ through-all (entryOf _ 0) (a .args .t3) (a .args .count) (omega arith) .0,
     )
 
 pub look-up-spec : {M : Type 1} → statement M

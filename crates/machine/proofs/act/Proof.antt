@@ -1,7 +1,7 @@
 -- `machine::act` meets its contract: each command is its function's. Assumes nothing.
 use Rattle.rules.specs.Machine.{act, untested}
 use Rattle.rules.specs.Meaning.{asked}
-use Rattle.machine.proofs.Acting.{beside-four, parse-table}
+use Rattle.machine.proofs.Acting.{parse-table}
 use borrow.Author.Needs.{needs}
 use Rattle.machine.proofs.act.Statement.{statement}
 use Rattle.machine.proofs.act.Tie as tie
@@ -106,10 +106,7 @@ same-length-6 c = search needs
 
 returns-6 : tie.Need-returns-6
 unfolding asked untested act
-returns-6 c =
-    let b = c .before .before .before .before .before .before .before .before in
-    let hs = b .args .handles in
-    rw (c .before .before .before .before .before .c5 .given .1) (rw (beside-four hs (b .good .1 .1 .0 .1 .0 .1)) (c .before .before .list .ensures))
+returns-6 c = rw (c .before .before .before .before .before .c5 .given .1) (c .before .before .list .ensures)
 
 same-length-7 : tie.Need-same-length-7
 same-length-7 c = search needs

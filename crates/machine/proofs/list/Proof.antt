@@ -5,7 +5,6 @@ use Rattle.rules.specs.Machine.{act}
 use Rattle.rules.specs.Meaning.{said}
 use Rattle.commands.proofs.Ways.{ends}
 use Rattle.rules.proofs.Keeps.{not-formed, is-formed}
-use Rattle.machine.proofs.Acting.{beside-four}
 use borrow.Author.Needs.{needs}
 use Rattle.machine.proofs.list.Statement.{statement}
 use Rattle.machine.proofs.list.Tie as tie
@@ -30,9 +29,7 @@ returns-2 : tie.Need-returns-2
 unfolding act
 returns-2 c =
     let b = c .before .before .before .before in
-    let a = b .before .before .before .before in
-    ends (is-formed _ _ (sym (b .before .well-formed .ensures) ∙ not-false _ (b .if1 .left)))
-    (rw (beside-four (a .args .handles) (a .good .1 .1 .0 .1 .0 .1)) (c .before .before .list .ensures))
+    ends (is-formed _ _ (sym (b .before .well-formed .ensures) ∙ not-false _ (b .if1 .left))) (c .before .before .list .ensures)
 
 pub list-spec : {M : Type 1} → statement M
 list-spec =

@@ -2,7 +2,6 @@
 use borrow.Author.Needs.{needs}
 use Rattle.rules.specs.Session.{hasRecord}
 use Rattle.rules.specs.Meaning.{asked}
-use Rattle.session.specs.Session.{numbersBeside}
 use Rattle.session.proofs.has_record.Statement.{statement}
 use Rattle.session.proofs.has_record.Tie as tie
 
@@ -60,7 +59,7 @@ unfolding hasRecord asked
 returns-5 c = search needs
 
 returns-6 : tie.Need-returns-6
-unfolding hasRecord asked numbersBeside
+unfolding hasRecord asked
 returns-6 c = rw (c .before .before .c .given .1) (c .list-is-asked .ensures)
 
 returns-7 : tie.Need-returns-7

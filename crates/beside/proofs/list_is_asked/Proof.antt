@@ -1,4 +1,4 @@
--- `session::list_is_asked` meets its contract: when handle i is reached, those from i on decide. Assumes nothing.
+-- `beside::list_is_asked` meets its contract: when handle i is reached, those from i on decide. Assumes nothing.
 use Prim.Native.Nat.{_≤_, _-_}
 use mathlib.Core.Path.{_≡_}
 use lib.ListN.{drop}
@@ -6,18 +6,17 @@ use native.Mathlib.Omega.{arith}
 use borrow.Author.Tests.{lt-leb, le-leb}
 use Rattle.rules.specs.Choice.{every, isZero}
 use Rattle.rules.specs.Commands.{listIsAsked}
-use Rattle.rules.specs.Meaning.{besideAt}
-use Rattle.session.specs.Session.{numbersBeside}
-use Rattle.session.proofs.Records.{zeros-next, zeros-stop, zeros-end}
+use Rattle.beside.specs.Beside.{numbersBeside}
+use Rattle.beside.proofs.Asked.{zeros-next, zeros-stop, zeros-end}
 use borrow.Author.Needs.{needs}
-use Rattle.session.proofs.list_is_asked.Statement.{statement}
-use Rattle.session.proofs.list_is_asked.Tie as tie
+use Rattle.beside.proofs.list_is_asked.Statement.{statement}
+use Rattle.beside.proofs.list_is_asked.Tie as tie
 
 abbrev Inv-loop : tie.InvT-loop
-Inv-loop k handles i₀ i = (i ≤ 4) × (listIsAsked k (numbersBeside handles) ≡ every isZero (drop i (numbersBeside handles)))
+Inv-loop count handles i₀ i = (i ≤ 4) × (listIsAsked count (numbersBeside handles) ≡ every isZero (drop i (numbersBeside handles)))
 
 abbrev μ-loop : tie.MeasureT-loop
-μ-loop k handles i₀ i = 4 - i
+μ-loop count handles i₀ i = 4 - i
 
 returns : tie.Need-returns Inv-loop μ-loop
 unfolding listIsAsked
@@ -38,7 +37,6 @@ element-copy-out-if3 : tie.Need-element-copy-out-if3 Inv-loop μ-loop
 element-copy-out-if3 c = search needs
 
 returns-3 : tie.Need-returns-3 Inv-loop μ-loop
-unfolding besideAt
 returns-3 c = zeros-stop (c .before .before .before .before .before .args .t2) (c .before .before .loop .i) (c .before .before .loop .inv .1) (omega arith) (c .if3 .taken)
 
 add-i : tie.Need-add-i Inv-loop μ-loop
@@ -48,7 +46,6 @@ loop-less : tie.Need-loop-less Inv-loop μ-loop
 loop-less c = omega arith
 
 loop-again : tie.Need-loop-again Inv-loop μ-loop
-unfolding besideAt
 loop-again c = (omega arith, zeros-next (c .before .before .before .before .before .args .t2) (c .before .before .loop .i) (c .before .before .loop .inv .1) (omega arith) (c .if3 .left))
 
 returns-4 : tie.Need-returns-4 Inv-loop μ-loop
