@@ -4,7 +4,7 @@ ghost use mathlib.Core.Bool.{true, not};
 ghost use Prim.Native.Nat.{_+_, _*_, _≤_, _<_};
 ghost use lib.Dec.{eqb};
 ghost use Rattle.rules.specs.Choice.{_or_, if_then_else_, agree, all};
-ghost use Rattle.rules.specs.Table.{size, most, rowWidth, version, participants, mask, used, sparesFit, everyKnower};
+ghost use Rattle.rules.specs.Table.{size, most, rowWidth, version, participants, mask, used, sparesFit, inMask, everyKnower};
 ghost use Rattle.rules.specs.Handles.{holds, held};
 ghost use Rattle.rules.specs.SetUp.{holdsSecretKey, holdsPublicKey};
 ghost use Rattle.rules.specs.WellFormed.{runIsLong, headFits, usedFits, heldAsNamed, isSecretKeyOf, isPublicKeyOf, keysFit};
@@ -76,10 +76,11 @@ fn held_as_named(t: &[u16], named: bool, e: Entry, k: u16) -> bool
 }
 
 // An honest participant holds its own secret key, knower 0 any other.
-fn holds_secret_key(mask: u16, p: u16, k: u16) -> bool
+fn holds_secret_key(mask: u16, p: u16, honest: bool, k: u16) -> bool
+    requires { ⌜ honest ≡ inMask mask p ⌝ }
     ensures { λ r. ⌜ r ≡ holdsSecretKey mask p k ⌝ }
 {
-    if people::in_mask(mask, p) {
+    if honest {
         return k == p;
     }
     k == 0
@@ -89,10 +90,11 @@ fn secret_key_is_held(t: &[u16], p: u16, e: Entry) -> bool
     ensures { λ r. ⌜ r ≡ everyKnower (now (t .entry)) (heldAsNamed (now (t .entry)) (holdsSecretKey (mask (now (t .entry))) p) (e .0)) ⌝ }
 {
     let mask = rows::mask(t);
+    let honest = people::in_mask(mask, p);
     let most = rows::most(t);
     let mut k: u16 = 0;
     while k <= most {
-        if !held_as_named(t, holds_secret_key(mask, p, k), e, k) {
+        if !held_as_named(t, holds_secret_key(mask, p, honest, k), e, k) {
             return false;
         }
         k += 1;

@@ -15,13 +15,16 @@ use Rattle.formed.proofs.secret_key_is_held.Statement.{statement}
 use Rattle.formed.proofs.secret_key_is_held.Tie as tie
 
 abbrev Inv-loop : tie.InvT-loop
-Inv-loop t p e mask most k₀ k = (k ≤ most + 1) × ((j : ℕ) → j < k → heldAsNamed t (holdsSecretKey (word t 0 2) p) (e .0) j ≡ true)
+Inv-loop t p e mask honest most k₀ k = (k ≤ most + 1) × ((j : ℕ) → j < k → heldAsNamed t (holdsSecretKey (word t 0 2) p) (e .0) j ≡ true)
 
 abbrev μ-loop : tie.MeasureT-loop
-μ-loop t p e mask most k₀ k = most + 1 - k
+μ-loop t p e mask honest most k₀ k = most + 1 - k
 
 mask-requires : tie.Need-mask-requires Inv-loop μ-loop
 mask-requires c κs = search needs
+
+in-mask-requires : tie.Need-in-mask-requires Inv-loop μ-loop
+in-mask-requires c κs = search needs
 
 most-requires : tie.Need-most-requires Inv-loop μ-loop
 most-requires c κs = search needs
@@ -30,7 +33,7 @@ loop-holds : tie.Need-loop-holds Inv-loop μ-loop
 loop-holds c = (omega arith, λ j l. absurd (omega arith))
 
 holds-secret-key-requires : tie.Need-holds-secret-key-requires Inv-loop μ-loop
-holds-secret-key-requires c κs = search needs
+holds-secret-key-requires c κs = c .before .before .before .in-mask .ensures
 
 held-as-named-requires : tie.Need-held-as-named-requires Inv-loop μ-loop
 held-as-named-requires c κs = search needs
@@ -41,13 +44,13 @@ returns c =
     let b = c .before .before .before .before in
     let low = rw (b .before .most .ensures) at (c .before .before .before .loop-test .taken) in
     sym (knower-fails _ _ (b .loop .k) low
-    (found-false (rw (c .before .before .holds-secret-key .ensures, b .before .before .mask .ensures) at (c .before .held-as-named .ensures))
+    (found-false (rw (c .before .before .holds-secret-key .ensures, b .before .before .before .mask .ensures) at (c .before .held-as-named .ensures))
     (c .if1 .taken)))
 
 add-k : tie.Need-add-k Inv-loop μ-loop
 add-k c =
     let b = c .before .before .before .before .before in
-    omega (arith, b .most .ensures, most-high (b .before .before .before .args .t .now))
+    omega (arith, b .most .ensures, most-high (b .before .before .before .before .args .t .now))
 
 loop-less : tie.Need-loop-less Inv-loop μ-loop
 loop-less c = search needs
@@ -58,7 +61,7 @@ loop-again c =
     let b = c .before .before .before .before in (
       omega arith,
       below-more _ _ (b .loop .inv .1)
-          (found-true (rw (c .before .before .holds-secret-key .ensures, b .before .before .mask .ensures) at (c .before .held-as-named .ensures))
+          (found-true (rw (c .before .before .holds-secret-key .ensures, b .before .before .before .mask .ensures) at (c .before .held-as-named .ensures))
           (c .if1 .left)),
     )
 
@@ -72,6 +75,7 @@ secret-key-is-held-spec =
     Inv-loop
     μ-loop
     mask-requires
+    in-mask-requires
     most-requires
     loop-holds
     holds-secret-key-requires
