@@ -52,6 +52,18 @@ fn read_cut_row(t: &[u16], e: Entry) -> Row
     }
 }
 
+// The row of any entry.
+fn row_of(t: &[u16], e: Entry) -> Row
+    ensures { λ r. ⌜ IsRow (now (t .entry)) (e .0) r ⌝ }
+{
+    let place = e.0 as usize;
+    let from = rows::row_width(t) * place;
+    if t.len() < from + 7 {
+        return read_cut_row(t, e);
+    }
+    read_row(t, e, from)
+}
+
 // The entry of the last key: there are two keys for each participant.
 fn last_key(n: u16) -> u32
     ensures { λ r. ⌜ r ≡ 2 * n ⌝ }
@@ -281,14 +293,11 @@ fn length_fits(t: &[u16], e: Entry, row: Row) -> bool
     row.length <= 4095
 }
 
-// The clauses of an entry whose numbers all lie in the run.
 fn entry_fits(t: &[u16], n: u16, e: Entry) -> bool
-    requires { ⌜ (n ≡ participants (now t)) × (rowWidth (now t) * (e .0) + 7 ≤ size (now t)) ⌝ }
+    requires { ⌜ n ≡ participants (now t) ⌝ }
     ensures { λ r. ⌜ r ≡ entryFits (now (t .entry)) (e .0) ⌝ }
 {
-    let place = e.0 as usize;
-    let from = rows::row_width(t) * place;
-    let row = read_row(t, e, from);
+    let row = row_of(t, e);
     if !type_fits(t, n, e, row) {
         return false; // W5
     }
@@ -310,50 +319,7 @@ fn entry_fits(t: &[u16], n: u16, e: Entry) -> bool
     length_fits(t, e, row) // W10
 }
 
-// W8 to W10 of an entry of length 0: only a secret key, or what is none of the six types, has that length.
-fn may_be_empty(t: &[u16], e: Entry, row: Row) -> bool
-    requires { ⌜ IsRow (now t) (e .0) row × (lengthAt (now t) (e .0) ≡ 0) ⌝ }
-    ensures { λ r. ⌜ r ≡ nonceFits (now (t .entry)) (e .0) and listFits (now (t .entry)) (e .0) and ciphertextFits (now (t .entry)) (e .0) and lengthFits (now (t .entry)) (e .0) ⌝ }
-{
-    if row.kind == 6 {
-        return false;
-    }
-    if row.kind < 1 {
-        return true;
-    }
-    if row.kind <= 4 {
-        return false;
-    }
-    true
-}
-
-// The clauses of an entry that the end of the run cuts: its length is read as 0.
-fn cut_entry_fits(t: &[u16], n: u16, e: Entry) -> bool
-    requires { ⌜ (n ≡ participants (now t)) × (size (now t) < rowWidth (now t) * (e .0) + 7) ⌝ }
-    ensures { λ r. ⌜ r ≡ entryFits (now (t .entry)) (e .0) ⌝ }
-{
-    let row = read_cut_row(t, e);
-    if !type_fits(t, n, e, row) {
-        return false; // cut, W5
-    }
-    if !count_fits(t, e, row) {
-        return false; // cut, W6
-    }
-    if !unused_are_zero(t, e, row) {
-        return false; // cut, W7
-    }
-    may_be_empty(t, e, row) // cut, W8 to W10
-}
-
-// The end of the run cuts the numbers of entry e.
-fn is_cut(t: &[u16], e: Entry) -> bool
-    ensures { λ r. ⌜ r ≡ ltb (size (now (t .entry))) (rowWidth (now (t .entry)) * (e .0) + 7) ⌝ }
-{
-    let row = e.0 as usize;
-    t.len() < rows::row_width(t) * row + 7
-}
-
-// Each used entry fits. One past the end of the run has no count, and doesn't.
+// Each used entry fits.
 pub fn entries_fit(t: &[u16]) -> bool
     ensures { λ r. ⌜ r ≡ all (entryFits (now (t .entry))) (used (now (t .entry))) ⌝ }
 {
@@ -362,12 +328,6 @@ pub fn entries_fit(t: &[u16]) -> bool
     let mut e: u16 = 0;
     while e < used {
         e += 1;
-        if is_cut(t, Entry(e)) {
-            if e < used {
-                return false;
-            }
-            return cut_entry_fits(t, n, Entry(e));
-        }
         if !entry_fits(t, n, Entry(e)) {
             return false;
         }

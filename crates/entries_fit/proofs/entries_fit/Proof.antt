@@ -1,15 +1,13 @@
--- `entries_fit::entries_fit` meets its contract: when entry e is reached all up to e fit, and their numbers lie in the run. Assumes nothing.
+-- `entries_fit::entries_fit` meets its contract: when entry e is reached all up to e fit. Assumes nothing.
 use Prim.Native.Nat.{_+_, _-_, _≤_}
 use native.Mathlib.Omega.{arith}
-use mathlib.Core.Path.{_≡_, refl, sym, _∙_}
+use mathlib.Core.Path.{_≡_, refl, sym}
 use mathlib.Core.Bool.{true}
-use borrow.Author.Tests.{ltb-true, ltb-false}
 use borrow.Author.Needs.{needs}
 use Rattle.rules.specs.Choice.{all}
 use Rattle.rules.specs.WellFormed.{entryFits}
 use Rattle.rules.proofs.Logic.{found-false, found-true}
 use Rattle.rules.proofs.Walks.{all-next, all-fails}
-use Rattle.entries_fit.proofs.Cut.{past-fails}
 use Rattle.entries_fit.proofs.entries_fit.Statement.{statement}
 use Rattle.entries_fit.proofs.entries_fit.Tie as tie
 
@@ -32,44 +30,23 @@ loop-holds c = (omega arith, refl)
 add-e : tie.Need-add-e Inv-loop μ-loop
 add-e c = search needs
 
-is-cut-requires : tie.Need-is-cut-requires Inv-loop μ-loop
-is-cut-requires c κs = search needs
+entry-fits-requires : tie.Need-entry-fits-requires Inv-loop μ-loop
+entry-fits-requires c κs = c .before .before .before .participants .ensures
 
 returns : tie.Need-returns Inv-loop μ-loop
 returns c =
-    let b = c .before .before .before .before in
-    let cut = ltb-true _ _ (sym (c .before .before .is-cut .ensures) ∙ c .before .if1 .taken) in
-    rw (← b .before .used .ensures)
-    (sym (all-fails _ _ (b .before .used .result) (omega arith) (omega arith) (past-fails _ (b .loop .e + 1) _ cut (c .if2 .taken))))
-
-cut-entry-fits-requires : tie.Need-cut-entry-fits-requires Inv-loop μ-loop
-cut-entry-fits-requires c κs =
-    (c .before .before .before .before .before .before .participants .ensures, ltb-true _ _ (sym (c .before .before .is-cut .ensures) ∙ c .before .if1 .taken))
-
-returns-2 : tie.Need-returns-2 Inv-loop μ-loop
-returns-2 c =
-    let b = c .before .before .before .before .before in
-    let end : b .loop .e + 1 ≡ b .before .used .result = omega arith in
-    rw (← b .before .used .ensures, ← end, all-next, b .loop .inv .1) (c .cut-entry-fits .ensures)
-
-entry-fits-requires : tie.Need-entry-fits-requires Inv-loop μ-loop
-entry-fits-requires c κs =
-    (c .before .before .before .before .before .participants .ensures, ltb-false _ _ (sym (c .before .is-cut .ensures) ∙ c .if1 .left))
-
-returns-3 : tie.Need-returns-3 Inv-loop μ-loop
-returns-3 c =
-    let b = c .before .before .before .before .before in
-    let fails = found-false (c .before .entry-fits .ensures) (c .if3 .taken) in
+    let b = c .before .before .before in
+    let fails = found-false (c .before .entry-fits .ensures) (c .if1 .taken) in
     rw (← b .before .used .ensures) (sym (all-fails _ _ (b .loop .e + 1) (omega arith) (omega arith) fails))
 
 loop-less : tie.Need-loop-less Inv-loop μ-loop
 loop-less c = search needs
 
 loop-again : tie.Need-loop-again Inv-loop μ-loop
-loop-again c = (omega arith, rw (all-next, c .before .before .before .before .before .loop .inv .1) (found-true (c .before .entry-fits .ensures) (c .if3 .left)))
+loop-again c = (omega arith, rw (all-next, c .before .before .before .loop .inv .1) (found-true (c .before .entry-fits .ensures) (c .if1 .left)))
 
-returns-4 : tie.Need-returns-4 Inv-loop μ-loop
-returns-4 c =
+returns-2 : tie.Need-returns-2 Inv-loop μ-loop
+returns-2 c =
     let end : c .before .loop .e ≡ c .before .before .used .result = omega arith in
     rw (← c .before .before .used .ensures) (sym (rw end at (c .before .loop .inv .1)))
 
@@ -83,12 +60,8 @@ entries-fit-spec =
     used-requires
     loop-holds
     add-e
-    is-cut-requires
-    returns
-    cut-entry-fits-requires
-    returns-2
     entry-fits-requires
-    returns-3
+    returns
     loop-less
     loop-again
-    returns-4)
+    returns-2)

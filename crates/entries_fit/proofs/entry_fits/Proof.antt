@@ -1,38 +1,22 @@
 -- `entries_fit::entry_fits` meets its contract: the clauses are the rule's, in its order. Assumes nothing.
-use Prim.Native.Nat.{ℕ, _*_}
-use native.Mathlib.Omega.{arith}
-use mathlib.Core.Path.{ap}
 use borrow.Author.Needs.{needs}
 use Rattle.rules.specs.WellFormed.{entryFits}
 use Rattle.rules.proofs.Logic.{and-stops, and-goes}
-use Rattle.rows.proofs.Places.{place-low}
 use Rattle.entries_fit.proofs.entry_fits.Statement.{statement}
 use Rattle.entries_fit.proofs.entry_fits.Tie as tie
 
-cast-place : tie.Need-cast-place
-cast-place c = search needs
-
-row-width-requires : tie.Need-row-width-requires
-row-width-requires c κs = search needs
-
-mul-from : tie.Need-mul-from
-mul-from c = omega (arith, place-low _ _ (c .before .before .before .args .e .0) (c .row-width .ensures) (omega (arith, c .before .struct-known .given)))
-
-read-row-requires : tie.Need-read-row-requires
-read-row-requires c κs =
-    let s = c .before .before .before in
-    let isFrom = ap (λ (w : ℕ). w * s .args .e .0) (c .row-width .ensures) in
-    (isFrom, omega (arith, isFrom, s .pre .1), place-low _ _ (s .args .e .0) (c .row-width .ensures) (omega (arith, c .before .struct-known .given)))
+row-of-requires : tie.Need-row-of-requires
+row-of-requires c κs = search needs
 
 type-fits-requires : tie.Need-type-fits-requires
-type-fits-requires c κs = (c .before .before .before .before .pre .0, c .read-row .ensures)
+type-fits-requires c κs = (c .before .before .pre, c .row-of .ensures)
 
 returns : tie.Need-returns
 unfolding entryFits
 returns c = and-stops _ (c .before .type-fits .ensures) (c .if1 .taken)
 
 count-fits-requires : tie.Need-count-fits-requires
-count-fits-requires c κs = c .before .before .read-row .ensures
+count-fits-requires c κs = c .before .before .row-of .ensures
 
 returns-2 : tie.Need-returns-2
 unfolding entryFits
@@ -42,7 +26,7 @@ returns-2 c =
     (and-stops _ (c .before .count-fits .ensures) (c .if2 .taken))
 
 unused-are-zero-requires : tie.Need-unused-are-zero-requires
-unused-are-zero-requires c κs = c .before .before .before .before .read-row .ensures
+unused-are-zero-requires c κs = c .before .before .before .before .row-of .ensures
 
 returns-3 : tie.Need-returns-3
 unfolding entryFits
@@ -54,7 +38,7 @@ returns-3 c =
     (and-stops _ (c .before .unused-are-zero .ensures) (c .if3 .taken)))
 
 nonce-fits-requires : tie.Need-nonce-fits-requires
-nonce-fits-requires c κs = (c .before .before .before .before .before .before .before .before .before .before .pre .0, c .before .before .before .before .before .before .read-row .ensures)
+nonce-fits-requires c κs = (c .before .before .before .before .before .before .before .before .pre, c .before .before .before .before .before .before .row-of .ensures)
 
 returns-4 : tie.Need-returns-4
 unfolding entryFits
@@ -68,7 +52,7 @@ returns-4 c =
     (and-stops _ (c .before .nonce-fits .ensures) (c .if4 .taken))))
 
 list-fits-requires : tie.Need-list-fits-requires
-list-fits-requires c κs = c .before .before .before .before .before .before .before .before .read-row .ensures
+list-fits-requires c κs = c .before .before .before .before .before .before .before .before .row-of .ensures
 
 returns-5 : tie.Need-returns-5
 unfolding entryFits
@@ -84,7 +68,7 @@ returns-5 c =
     (and-stops _ (c .before .list-fits .ensures) (c .if5 .taken)))))
 
 ciphertext-fits-requires : tie.Need-ciphertext-fits-requires
-ciphertext-fits-requires c κs = (c .before .before .before .before .before .before .before .before .before .before .before .before .before .before .pre .0, c .before .before .before .before .before .before .before .before .before .before .read-row .ensures)
+ciphertext-fits-requires c κs = (c .before .before .before .before .before .before .before .before .before .before .before .before .pre, c .before .before .before .before .before .before .before .before .before .before .row-of .ensures)
 
 returns-6 : tie.Need-returns-6
 unfolding entryFits
@@ -102,7 +86,7 @@ returns-6 c =
     (and-stops _ (c .before .ciphertext-fits .ensures) (c .if6 .taken))))))
 
 length-fits-requires : tie.Need-length-fits-requires
-length-fits-requires c κs = c .before .before .before .before .before .before .before .before .before .before .before .before .read-row .ensures
+length-fits-requires c κs = c .before .before .before .before .before .before .before .before .before .before .before .before .row-of .ensures
 
 returns-7 : tie.Need-returns-7
 unfolding entryFits
@@ -125,10 +109,7 @@ pub entry-fits-spec : {M : Type 1} → statement M
 entry-fits-spec =
     tie.close
     (tie.spec
-    cast-place
-    row-width-requires
-    mul-from
-    read-row-requires
+    row-of-requires
     type-fits-requires
     returns
     count-fits-requires

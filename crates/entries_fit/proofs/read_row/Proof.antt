@@ -1,9 +1,16 @@
 -- `entries_fit::read_row` meets its contract: the seven numbers stand at their places. Assumes nothing.
+use Prim.Native.Nat.{ℕ, _+_, _*_}
 use native.Mathlib.Omega.{arith}
+use mathlib.Core.Path.{_≡_, refl}
+use lib.ListN.{getD}
 use borrow.Author.Needs.{needs}
-use Rattle.entries_fit.proofs.Cut.{there}
+use Rattle.rules.specs.Table.{Table, rowWidth, word}
 use Rattle.entries_fit.proofs.read_row.Statement.{statement}
 use Rattle.entries_fit.proofs.read_row.Tie as tie
+
+there : (t : Table) (e i k : ℕ) → i ≡ rowWidth t * e + k → getD t i 0 ≡ word t e k
+unfolding word
+there t e i k q = rw q refl
 
 mul-t4 : tie.Need-mul-t4
 mul-t4 c = search needs
