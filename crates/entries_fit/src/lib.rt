@@ -2,7 +2,7 @@
 ghost use mathlib.Core.Path.{_≡_};
 ghost use Prim.Native.Nat.{_+_, _*_, _<_, _≤_};
 ghost use lib.Dec.{ltb};
-ghost use Rattle.rules.specs.Choice.{_and_, _or_, _implies_, if_then_else_, all, every, sumOf, isZero};
+ghost use Rattle.rules.specs.Choice.{_or_, _implies_, if_then_else_, all, every, sumOf, isZero};
 ghost use Rattle.rules.specs.Table.{size, rowWidth, participants, used, lengthAt};
 ghost use Rattle.rules.specs.Terms.{elements, termAt, lengthOf};
 ghost use Rattle.rules.specs.WellFormed.{isLaterType, typeFits, countOf, countFits, unusedAreZero, nonceFits, isEarlier, mayBeElement};

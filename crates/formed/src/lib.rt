@@ -4,7 +4,7 @@ ghost use mathlib.Core.Bool.{true, not};
 ghost use Prim.Native.Nat.{_+_, _*_, _≤_, _<_};
 ghost use lib.Dec.{eqb};
 ghost use Rattle.rules.specs.Choice.{_or_, if_then_else_, agree, all};
-ghost use Rattle.rules.specs.Table.{size, most, rowWidth, version, participants, mask, used, sparesFit, inMask, everyKnower};
+ghost use Rattle.rules.specs.Table.{size, most, rowWidth, participants, mask, used, sparesFit, inMask, everyKnower};
 ghost use Rattle.rules.specs.Handles.{holds, held};
 ghost use Rattle.rules.specs.SetUp.{holdsSecretKey, holdsPublicKey};
 ghost use Rattle.rules.specs.WellFormed.{runIsLong, headFits, usedFits, heldAsNamed, isSecretKeyOf, isPublicKeyOf, keysFit};
