@@ -83,5 +83,6 @@ pub fn entry_of(t: &[u16], k: u16, h: Handle) -> Found
     if rows::most(t) < k {
         return Found::Nothing;
     }
-    rows::next_with(t, Entry(0), 7 + k, h.0)
+    let place = 7 + k;
+    rows::next_with(t, Entry(0), place, h.0, place, h.0)
 }

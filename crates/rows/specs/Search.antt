@@ -1,27 +1,30 @@
--- The search of the used entries by one word.
-use Prim.Native.Nat.{ℕ, _+_, _*_, _≤_, _<_}
+-- The search of the used entries by two words.
+use Prim.Native.Nat.{ℕ, _*_, _≤_, _<_}
 use mathlib.Core.Path.{_≡_}
-use mathlib.Core.Logic.{_≢_}
-use mathlib.Core.Bool.{Bool}
+use mathlib.Core.Bool.{Bool, false}
 use lib.Dec.{eqb, ltb}
 use Rattle.rules.specs.Choice.{_and_, lowest}
 use Rattle.rules.specs.Table.{Table, rowWidth, word, used}
 
--- entry x lies above e and its word k is v
-abbrev pub hasAbove : Table → ℕ → ℕ → ℕ → ℕ → Bool
-hasAbove t e k v x = ltb e x and eqb (word t x k) v
+-- entry x has v as its word k and w as its word j
+unfoldable pub hasBoth : Table → ℕ → ℕ → ℕ → ℕ → ℕ → Bool
+hasBoth t k v j w x = eqb (word t x k) v and eqb (word t x j) w
 
--- the lowest used entry above e whose word k is v; 0 for none
-unfoldable pub nextWith : Table → ℕ → ℕ → ℕ → ℕ
-nextWith t e k v = lowest (hasAbove t e k v) (used t)
+-- x lies above e and passes the test
+abbrev pub passesAbove : ℕ → (ℕ → Bool) → ℕ → Bool
+passesAbove e f x = ltb e x and f x
 
--- v is word k of none above e up to n
-abbrev pub NoneTo : Table → ℕ → ℕ → ℕ → ℕ → Type 0
-NoneTo t e k v n = (x : ℕ) → e < x → x ≤ n → word t x k ≢ v
+-- the lowest used entry above e that has both; 0 for none
+unfoldable pub nextWith : Table → ℕ → ℕ → ℕ → ℕ → ℕ → ℕ
+nextWith t e k v j w = lowest (passesAbove e (hasBoth t k v j w)) (used t)
 
--- the search may stand at this place: that of word k of a row, from e on, and up to that row there is none
-pub record Reached (t : Table) (e k v at : ℕ) : Type 0 where
+-- none above e up to n passes the test
+abbrev pub NoneTo : ℕ → (ℕ → Bool) → ℕ → Type 0
+NoneTo e f n = (x : ℕ) → e < x → x ≤ n → f x ≡ false
+
+-- the search may stand at this place: a row starts there, from e on, and up to that row none passes the test
+pub record Reached (t : Table) (e : ℕ) (f : ℕ → Bool) (at : ℕ) : Type 0 where
   pub row : ℕ
-  pub place : at ≡ rowWidth t * row + k
+  pub place : at ≡ rowWidth t * row
   pub from : e ≤ row
-  pub none : NoneTo t e k v row
+  pub none : NoneTo e f row

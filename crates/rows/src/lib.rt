@@ -1,12 +1,14 @@
 // The lent run as rows of numbers: row 0 is the head, row e is entry e (rules T1 to T3). Reads past the end give 0, writes there do nothing.
 ghost use mathlib.Core.Path.{_≡_};
 ghost use mathlib.Core.List.{_++_};
-ghost use Prim.Native.Nat.{_+_, _<_};
-ghost use lib.ListN.{length, replicate};
+ghost use Prim.Native.Nat.{_+_, _<_, _≤_};
+ghost use lib.Dec.{eqb};
+ghost use lib.ListN.{length, getD, replicate};
+ghost use Rattle.rules.specs.Choice.{_and_};
 ghost use Rattle.rules.specs.Table.{most, rowWidth, word, put, withRow, participants, mask, capacity, used, typeAt, countAt, argument, lengthAt};
 ghost use Rattle.rules.specs.Meaning.{foundAt, orNothing};
 ghost use Rattle.rows.specs.Row.{seven, filled};
-ghost use Rattle.rows.specs.Search.{nextWith, Reached};
+ghost use Rattle.rows.specs.Search.{hasBoth, nextWith, Reached};
 use rules::Entry;
 use rules::Found;
 
@@ -112,62 +114,6 @@ pub fn used(t: &[u16]) -> u16
     word(t, Entry(0), 4)
 }
 
-// The same search in a run that ends before its last used entry: word by word, past the end they are 0.
-fn next_by_word(t: &[u16], e: Entry, k: u16, v: u16) -> Found
-    ensures { λ r. ⌜ foundAt r ≡ orNothing (nextWith (now (t .entry)) (e .0) k v) ⌝ }
-{
-    let used = used(t);
-    let mut x = e.0;
-    while x < used {
-        x += 1;
-        if word(t, Entry(x), k) == v {
-            return Found::At(Entry(x));
-        }
-    }
-    Found::Nothing
-}
-
-// From word k of a row the search goes by four rows a turn, not past the place `last`, and stands before four that have v among them.
-fn pass_fours(t: &[u16], row: u16, k: u16, v: u16, last: usize) -> usize
-    requires { ⌜ last < length (now t) ⌝ }
-    ensures { λ r. ⌜ Reached (now (t .entry)) row k v r ⌝ }
-{
-    let width = row_width(t);
-    let mut at = width * row as usize + k as usize;
-    while at + 4 * width <= last {
-        let a = at + width;
-        let b = a + width;
-        let c = b + width;
-        let d = c + width;
-        if t[a] == v || t[b] == v || t[c] == v || t[d] == v {
-            return at;
-        }
-        at = d;
-    }
-    at
-}
-
-// The lowest used entry above e whose word k is v. Entries are gone through by the place of that word, a row's width apart.
-pub fn next_with(t: &[u16], e: Entry, k: u16, v: u16) -> Found
-    ensures { λ r. ⌜ foundAt r ≡ orNothing (nextWith (now (t .entry)) (e .0) k v) ⌝ }
-{
-    let width = row_width(t);
-    let used = used(t) as usize;
-    let last = width * used + k as usize;
-    if t.len() <= last {
-        return next_by_word(t, e, k, v);
-    }
-    let row = e.0;
-    let mut at = pass_fours(t, row, k, v, last);
-    while at < last {
-        at += width;
-        if t[at] == v {
-            return Found::At(Entry(((at - k as usize) / width) as u16));
-        }
-    }
-    Found::Nothing
-}
-
 // The fields of an entry (rule T3).
 pub fn kind(t: &[u16], e: Entry) -> u16
     ensures { λ r. ⌜ r ≡ typeAt (now (t .entry)) (e .0) ⌝ }
@@ -204,4 +150,91 @@ pub fn length(t: &[u16], e: Entry) -> u16
     ensures { λ r. ⌜ r ≡ lengthAt (now (t .entry)) (e .0) ⌝ }
 {
     word(t, e, 6)
+}
+
+// The larger of two.
+fn larger(a: u16, b: u16) -> u16
+    ensures { λ r. ⌜ (a ≤ r) × (b ≤ r) ⌝ }
+{
+    if a < b { b } else { a }
+}
+
+// The row that starts at this place, in the run, has v as its word k and w as its word j.
+fn has_both_at(t: &[u16], at: usize, k: u16, v: u16, j: u16, w: u16) -> bool
+    requires { ⌜ (at + k < length (now t)) × (at + j < length (now t)) ⌝ }
+    ensures { λ r. ⌜ r ≡ eqb (getD (now (t .entry)) (at + k) 0) v and eqb (getD (now (t .entry)) (at + j) 0) w ⌝ }
+{
+    if t[at + k as usize] != v {
+        return false;
+    }
+    t[at + j as usize] == w
+}
+
+// Entry e has v as its word k and w as its word j.
+fn has_both(t: &[u16], e: Entry, k: u16, v: u16, j: u16, w: u16) -> bool
+    ensures { λ r. ⌜ r ≡ hasBoth (now (t .entry)) k v j w (e .0) ⌝ }
+{
+    if word(t, e, k) != v {
+        return false;
+    }
+    word(t, e, j) == w
+}
+
+// The search in a run that ends before its last used entry: word by word, past the end they are 0.
+fn next_by_word(t: &[u16], e: Entry, k: u16, v: u16, j: u16, w: u16) -> Found
+    ensures { λ r. ⌜ foundAt r ≡ orNothing (nextWith (now (t .entry)) (e .0) k v j w) ⌝ }
+{
+    let used = used(t);
+    let mut x = e.0;
+    while x < used {
+        x += 1;
+        if has_both(t, Entry(x), k, v, j, w) {
+            return Found::At(Entry(x));
+        }
+    }
+    Found::Nothing
+}
+
+// From a row on the search goes by four rows a turn, not past the row that starts at `last`, and stands before four of which one has both.
+fn pass_fours(t: &[u16], row: u16, k: u16, v: u16, j: u16, w: u16, last: usize) -> usize
+    requires { ⌜ (last + k < length (now t)) × (last + j < length (now t)) ⌝ }
+    ensures { λ r. ⌜ Reached (now (t .entry)) row (hasBoth (now (t .entry)) k v j w) r ⌝ }
+{
+    let width = row_width(t);
+    let mut at = width * row as usize;
+    while at + 4 * width <= last {
+        let a = at + width;
+        let b = a + width;
+        let c = b + width;
+        let d = c + width;
+        if has_both_at(t, a, k, v, j, w)
+            || has_both_at(t, b, k, v, j, w)
+            || has_both_at(t, c, k, v, j, w)
+            || has_both_at(t, d, k, v, j, w)
+        {
+            return at;
+        }
+        at = d;
+    }
+    at
+}
+
+// The lowest used entry above e that has v as its word k and w as its word j. Entries are gone through by the place where each row starts.
+pub fn next_with(t: &[u16], e: Entry, k: u16, v: u16, j: u16, w: u16) -> Found
+    ensures { λ r. ⌜ foundAt r ≡ orNothing (nextWith (now (t .entry)) (e .0) k v j w) ⌝ }
+{
+    let width = row_width(t);
+    let last = width * used(t) as usize;
+    if t.len() <= last + larger(k, j) as usize {
+        return next_by_word(t, e, k, v, j, w);
+    }
+    let row = e.0;
+    let mut at = pass_fours(t, row, k, v, j, w, last);
+    while at < last {
+        at += width;
+        if has_both_at(t, at, k, v, j, w) {
+            return Found::At(Entry((at / width) as u16));
+        }
+    }
+    Found::Nothing
 }

@@ -22,6 +22,17 @@ and-right false b e = cc
 pub both : {a b : Bool} → a ≡ true → b ≡ true → a and b ≡ true
 both p q = rw (p, q)
 
+-- in the other order, and the same twice
+pub and-swap : (a b : Bool) → a and b ≡ b and a
+and-swap true true = refl
+and-swap true false = refl
+and-swap false true = refl
+and-swap false false = refl
+
+pub and-same : (a : Bool) → a ≡ a and a
+and-same true = refl
+and-same false = refl
+
 pub or-right : (a b : Bool) → b ≡ true → a or b ≡ true
 or-right true b e = refl
 or-right false b e = e

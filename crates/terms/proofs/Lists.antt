@@ -8,11 +8,12 @@ use mathlib.Core.Bool.{Bool, true, false}
 use mathlib.Core.List.{List, [], _∷_}
 use lib.ListN.{length, getD, take, length-take}
 use lib.Seq.{ext-getD, getD-take}
-use borrow.Author.Tests.{eqb-true, eq-eqb, ne-eqb}
+use borrow.Author.Tests.{eqb-true, eq-eqb, ne-eqb, lt-ltb, le-ltb}
 use Rattle.rules.specs.Table.{Table, word, typeAt, countAt, arguments}
 use Rattle.rules.specs.Terms.{listType, isList, elements, isListOf}
 use Rattle.rules.specs.declared.Entry.{Entry}
 use Rattle.rules.proofs.Logic.{and-left, and-right, both, same-true, same-refl}
+use Rattle.rows.specs.Search.{hasBoth}
 use Rattle.terms.specs.Elements.{numbers, surePlace, sureNumber}
 
 -- ---- the entries that are handed over
@@ -66,22 +67,6 @@ module _ (t : Table) (e : ℕ) where
       go true q = absurd (h (same-true _ _ (and-right (isList t e) _ q)))
       go false q = refl
 
-  -- the word by which a list of the first n of four entries is sought
-  sure-word : (n : ℕ) (es : List Entry) → length es ≡ 4 → isListOf t (take n (numbers es)) e ≡ true
-      → word t e (surePlace n) ≡ sureNumber n (numberAt es 0)
-  unfolding isListOf elements arguments surePlace sureNumber
-  sure-word zero es four p = eqb-true (typeAt t e) listType (and-left (isList t e) _ p)
-  sure-word (suc n) [] four p = absurd (omega arith)
-  sure-word (suc n) (x ∷ es) four p = rw (ne-eqb (suc n) 0 (λ q. omega arith)) (go (countAt t e) (same-true _ _ (and-right (isList t e) _ p)))
-    where
-      go : (c : ℕ) → take c (arguments t e) ≡ take (suc n) (numbers (x ∷ es)) → word t e 2 ≡ x .0
-      go zero q = cc
-      go (suc c) q = cc
-
-  pub has-sure : (n : ℕ) (es : List Entry) → length es ≡ 4 → (p v : ℕ) → p ≡ surePlace n → v ≡ sureNumber n (numberAt es 0)
-      → isListOf t (take n (numbers es)) e ≡ true → word t e p ≡ v
-  has-sure n es four p v q r h = rw (q, r) (sure-word n es four h)
-
   -- the first n of four entries: w of them are wanted, and the entry has m
   module _ (n : ℕ) (es : List Entry) (four : length es ≡ 4) (c m w : ℕ) (counted : c ≡ countAt t e) (few : m ≡ min c 4) (wanted : w ≡ min n 4) where
     entry-length : length (elements t e) ≡ m
@@ -114,3 +99,34 @@ module _ (t : Table) (e : ℕ) where
         let q : elements t e ≡ take n (numbers es) = ext-getD 0 _ _ (entry-length ∙ s ∙ sym wanted-length)
         (λ i h. let l : i < m = rw entry-length at h in entry-at i l ∙ f i (omega arith) ∙ sym (wanted-at i (omega arith))) in
         both (eq-eqb (typeAt t e) listType y) (rw q (same-refl (take n (numbers es))))
+
+  -- ---- the words by which a list of the first n of four entries is sought
+  module _ (n : ℕ) (es : List Entry) (four : length es ≡ 4) (is : isListOf t (take n (numbers es)) e ≡ true) where
+    alike : elements t e ≡ take n (numbers es)
+    unfolding isListOf
+    alike = same-true _ _ (and-right (isList t e) _ is)
+
+    type-is : word t e 0 ≡ listType
+    unfolding isListOf
+    type-is = eqb-true (typeAt t e) listType (and-left (isList t e) _ is)
+
+    -- element i of the list is the entry's
+    element-is : (i : ℕ) → i < n → i < 4 → word t e (2 + i) ≡ numberAt es i
+    element-is i l h =
+        let as-many = sym (wanted-length n es four _ _ _ refl refl refl) ∙ ap {B = ℕ} length (sym alike) ∙ entry-length n es four _ _ _ refl refl refl in
+        sym (entry-at n es four _ _ _ refl refl refl i (omega (arith, as-many))) ∙ ap (λ (xs : List ℕ). getD xs i 0) alike
+        ∙ wanted-at n es four _ _ _ refl refl refl i (omega arith)
+
+    sure-word : (i : ℕ) → i < 4 → (p v : ℕ) → p ≡ surePlace n i → v ≡ sureNumber n i (numberAt es i) → word t e p ≡ v
+    unfolding surePlace sureNumber
+    sure-word i h p v q r = go (decLt i n)
+      where
+        go : Dec (i < n) → word t e p ≡ v
+        go (yes l) = rw (q, r, lt-ltb i n l) (element-is i l h)
+        go (no l) = rw (q, r, le-ltb i n (omega arith)) type-is
+
+    pub has-sure : (p v o w : ℕ) → p ≡ surePlace n 0 → v ≡ sureNumber n 0 (numberAt es 0) → o ≡ surePlace n 1
+        → w ≡ sureNumber n 1 (numberAt es 1) → hasBoth t p v o w e ≡ true
+    unfolding hasBoth
+    has-sure p v o w a b c d =
+        both (eq-eqb (word t e p) v (sure-word 0 (omega arith) p v a b)) (eq-eqb (word t e o) w (sure-word 1 (omega arith) o w c d))

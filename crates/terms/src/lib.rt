@@ -1,6 +1,6 @@
 // Terms: a new entry, and the lowest entry that is a given datum or list (rules T9 and T10).
 ghost use mathlib.Core.Path.{_≡_};
-ghost use Prim.Native.Nat.{min};
+ghost use Prim.Native.Nat.{_<_, min};
 ghost use lib.ListN.{take};
 ghost use Rattle.rules.specs.Terms.{newEntry, addEntry, isDatumOf, findDatum, findList};
 ghost use Rattle.rules.specs.Meaning.{foundAt, orNothing};
@@ -35,16 +35,7 @@ pub fn is_datum_of(t: &[u16], d: u16, e: Entry) -> bool
 pub fn find_datum(t: &[u16], d: u16) -> Found
     ensures { λ r. ⌜ foundAt r ≡ orNothing (findDatum (now (t .entry)) d) ⌝ }
 {
-    let mut e: u16 = 0;
-    loop {
-        let Found::At(x) = rows::next_with(t, Entry(e), 2, d) else {
-            return Found::Nothing;
-        };
-        if is_datum_of(t, d, x) {
-            return Found::At(x);
-        }
-        e = x.0;
-    }
+    rows::next_with(t, Entry(0), 2, d, 0, 1)
 }
 
 // The number of arguments that a count can mean.
@@ -54,30 +45,34 @@ fn few(count: u16) -> u16
     if count < 4 { count } else { 4 }
 }
 
-// A word that is the same in every list of `count` elements that begin with this one: the first argument; the type where there is none.
-fn sure_place(count: u16) -> u16
-    ensures { λ r. ⌜ r ≡ surePlace count ⌝ }
+// Words that are the same in every list of `count` elements with x as the one after the first i: where x stands, or the type if the
+// list has no such element.
+fn sure_place(count: u16, i: u16) -> u16
+    requires { ⌜ i < 4 ⌝ }
+    ensures { λ r. ⌜ r ≡ surePlace count i ⌝ }
 {
-    if count == 0 { 0 } else { 2 }
+    if i < count { 2 + i } else { 0 }
 }
 
-// And what it is.
-fn sure_number(count: u16, first: Entry) -> u16
-    ensures { λ r. ⌜ r ≡ sureNumber count (first .0) ⌝ }
+// And what they are.
+fn sure_number(count: u16, i: u16, x: Entry) -> u16
+    ensures { λ r. ⌜ r ≡ sureNumber count i (x .0) ⌝ }
 {
-    if count == 0 { 3 } else { first.0 }
+    if i < count { x.0 } else { 3 }
 }
 
-// The lowest list entry with just the first `count` of these elements.
+// The lowest list entry with just the first `count` of these elements. Only entries with v as their word a and w as their word b can be it.
 pub fn find_list(t: &[u16], count: u16, elements: [Entry; 4]) -> Found
     ensures { λ r. ⌜ foundAt r ≡ orNothing (findList (now (t .entry)) (take count (numbers elements))) ⌝ }
 {
     let wanted = few(count);
-    let place = sure_place(count);
-    let number = sure_number(count, elements[0]);
+    let a = sure_place(count, 0);
+    let v = sure_number(count, 0, elements[0]);
+    let b = sure_place(count, 1);
+    let w = sure_number(count, 1, elements[1]);
     let mut e: u16 = 0;
     let found = 'scan: loop {
-        let Found::At(candidate) = rows::next_with(t, Entry(e), place, number) else {
+        let Found::At(candidate) = rows::next_with(t, Entry(e), a, v, b, w) else {
             break 'scan Found::Nothing;
         };
         e = candidate.0;

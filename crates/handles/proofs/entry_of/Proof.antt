@@ -8,14 +8,15 @@ use mathlib.Core.Bool.{false}
 use mathlib.Core.List.{List, []}
 use borrow.Author.Needs.{needs}
 use borrow.Author.Tests.{eq-eqb, ne-eqb}
-use Rattle.rules.specs.Table.{Table, most}
+use lib.Dec.{eqb}
+use Rattle.rules.specs.Table.{Table, most, word}
 use Rattle.rules.specs.Handles.{names, entryOf}
 use Rattle.rules.specs.Meaning.{foundAt, orNothing}
-use Rattle.rules.proofs.Logic.{never}
+use Rattle.rules.proofs.Logic.{never, and-same}
 use Rattle.rules.proofs.Words.{most-high}
 use Rattle.rules.proofs.Granting.{handle-in, handle-out}
 use Rattle.rules.proofs.Meaning.{scan-nothing}
-use Rattle.rows.specs.Search.{nextWith}
+use Rattle.rows.specs.Search.{hasBoth, nextWith}
 use Rattle.rows.proofs.Search.{lowest-none, next-of-all}
 use Rattle.handles.proofs.entry_of.Statement.{statement}
 use Rattle.handles.proofs.entry_of.Tie as tie
@@ -34,9 +35,12 @@ module _ (t : Table) (k h : ℕ) where
     unfolding names
     no-knower l x = rw (ne-eqb h 0 some, handle-out t k x l, ne-eqb 0 h (λ q. some (sym q))) refl
 
-    by-word : k ≤ most t → {r : List ℕ} → r ≡ orNothing (nextWith t 0 (7 + k) h) → r ≡ orNothing (entryOf t k h)
-    unfolding names entryOf
-    by-word l p = rw (← next-of-all t (names t k h) (7 + k) h (λ x. rw (ne-eqb h 0 some, handle-in t k x l) refl)) p
+    -- the one word is sought twice
+    by-word : k ≤ most t → {r : List ℕ} → r ≡ orNothing (nextWith t 0 (7 + k) h (7 + k) h) → r ≡ orNothing (entryOf t k h)
+    unfolding names entryOf hasBoth
+    by-word l p =
+        let n = next-of-all t (names t k h) (7 + k) h (7 + k) h (λ x. rw (ne-eqb h 0 some, handle-in t k x l) (and-same (eqb (word t x (7 + k)) h))) in
+        rw (← n) p
 
 returns : tie.Need-returns
 unfolding foundAt
@@ -49,8 +53,8 @@ returns-2 : tie.Need-returns-2
 unfolding foundAt
 returns-2 c = names-none _ _ _ (no-knower _ _ _ (c .before .before .if1 .left) (rw (c .before .most .ensures) at (c .if2 .taken)))
 
-add-next-with : tie.Need-add-next-with
-add-next-with c = omega (arith, c .before .most .ensures, most-high (c .before .before .before .before .before .args .t .now))
+add-place : tie.Need-add-place
+add-place c = omega (arith, c .before .most .ensures, most-high (c .before .before .before .before .before .args .t .now))
 
 next-with-requires : tie.Need-next-with-requires
 next-with-requires c κs = search needs
@@ -62,4 +66,4 @@ returns-3 c =
 
 pub entry-of-spec : {M : Type 1} → statement M
 entry-of-spec =
-    tie.close (tie.spec returns most-requires returns-2 add-next-with next-with-requires returns-3)
+    tie.close (tie.spec returns most-requires returns-2 add-place next-with-requires returns-3)

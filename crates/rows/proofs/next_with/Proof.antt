@@ -1,26 +1,26 @@
--- `rows::next_with` meets its contract: the place is always that of word k of a row, and none above e up to that row has v.
+-- `rows::next_with` meets its contract: a row always starts at the place, and none above e up to that row has both words.
 -- Assumes nothing.
-use Prim.Native.Nat.{ℕ, _+_, _*_, _-_, _<_}
+use Prim.Native.Nat.{ℕ, _*_, _-_, _<_}
 use native.Mathlib.Omega.{arith}
 use mathlib.Core.Path.{_≡_, ap}
 use borrow.Author.Needs.{needs}
 use Rattle.rules.specs.Table.{Table, used}
 use Rattle.rules.specs.Meaning.{foundAt}
-use Rattle.rows.specs.Search.{Reached}
+use Rattle.rows.specs.Search.{hasBoth, Reached}
 use Rattle.rows.proofs.Places.{place-low}
 use Rattle.rows.proofs.Search.{reached-more, more-fits, found-low, reached-found, reached-last}
 use Rattle.rows.proofs.next_with.Statement.{statement}
 use Rattle.rows.proofs.next_with.Tie as tie
 
 abbrev Inv-loop : tie.InvT-loop
-Inv-loop t k v width used last row at₀ at = Reached t row k v at
+Inv-loop t k v j w width last row at₀ at = Reached t row (hasBoth t k v j w) at
 
 abbrev μ-loop : tie.MeasureT-loop
-μ-loop t k v width used last row at₀ at = last - at
+μ-loop t k v j w width last row at₀ at = last - at
 
--- the place of the last used row's word, by what `used` gave
-last-is : (t : Table) (w k u : ℕ) → u ≡ used t → w * u + k ≡ w * used t + k
-last-is t w k u q = ap (λ (x : ℕ). w * x + k) q
+-- where the last used row starts, by what `used` gave
+last-is : (t : Table) (m u : ℕ) → u ≡ used t → m * u ≡ m * used t
+last-is t m u q = ap (λ (x : ℕ). m * x) q
 
 row-width-requires : tie.Need-row-width-requires Inv-loop μ-loop
 row-width-requires c κs = search needs
@@ -28,18 +28,25 @@ row-width-requires c κs = search needs
 used-requires : tie.Need-used-requires Inv-loop μ-loop
 used-requires c κs = search needs
 
-cast-used : tie.Need-cast-used Inv-loop μ-loop
-cast-used c = search needs
+cast-last : tie.Need-cast-last Inv-loop μ-loop
+cast-last c = search needs
 
 mul-last : tie.Need-mul-last Inv-loop μ-loop
 mul-last c =
     let l : c .used .result < 65536 = omega arith in
     omega (arith, place-low _ _ (c .used .result) (c .before .row-width .ensures) l)
 
-add-last : tie.Need-add-last Inv-loop μ-loop
-add-last c =
-    let l : c .used .result < 65536 = omega arith in
-    omega (arith, place-low _ _ (c .used .result) (c .before .row-width .ensures) l)
+larger-requires : tie.Need-larger-requires Inv-loop μ-loop
+larger-requires c κs = search needs
+
+cast-if1 : tie.Need-cast-if1 Inv-loop μ-loop
+cast-if1 c = search needs
+
+add-if1 : tie.Need-add-if1 Inv-loop μ-loop
+add-if1 c =
+    let b = c .before in
+    let l : b .used .result < 65536 = omega arith in
+    omega (arith, place-low _ _ (b .used .result) (b .before .row-width .ensures) l)
 
 next-by-word-requires : tie.Need-next-by-word-requires Inv-loop μ-loop
 next-by-word-requires c κs = search needs
@@ -48,64 +55,55 @@ returns : tie.Need-returns Inv-loop μ-loop
 returns c = c .next-by-word .ensures
 
 pass-fours-requires : tie.Need-pass-fours-requires Inv-loop μ-loop
-pass-fours-requires c κs = search needs
+pass-fours-requires c κs = (omega (arith, c .before .larger .ensures .0), omega (arith, c .before .larger .ensures .1))
 
 loop-holds : tie.Need-loop-holds Inv-loop μ-loop
 loop-holds c = c .pass-fours .ensures
 
 add-at : tie.Need-add-at Inv-loop μ-loop
 add-at c =
-    let b = c .before .before .before .before in
-    let fits = more-fits _ _ _ _ _ _ (b .before .row-width .ensures) (c .before .loop .inv) _ (last-is _ _ _ _ (b .used .ensures)) (c .loop-test .taken) in
+    let b = c .before .before .before .before .before in
+    let fits = more-fits _ _ _ _ _ _ _ _ (b .before .row-width .ensures) (c .before .loop .inv) _ (last-is _ _ _ (b .used .ensures)) (c .loop-test .taken) in
     omega (arith, fits)
 
-mul-if2 : tie.Need-mul-if2 Inv-loop μ-loop
-mul-if2 c =
-    let b = c .before .before .before .before in
-    let fits = more-fits _ _ _ _ _ _ (b .before .row-width .ensures) (c .before .loop .inv) _ (last-is _ _ _ _ (b .used .ensures)) (c .loop-test .taken) in
-    omega (arith, fits)
+has-both-at-requires : tie.Need-has-both-at-requires Inv-loop μ-loop
+has-both-at-requires c κs =
+    let larger = c .before .before .before .before in
+    let b = larger .before in
+    let fits = more-fits _ _ _ _ _ _ _ _ (b .before .row-width .ensures) (c .before .loop .inv) _ (last-is _ _ _ (b .used .ensures)) (c .loop-test .taken) in
+    (omega (arith, fits, larger .larger .ensures .0), omega (arith, fits, larger .larger .ensures .1))
 
-shared-slice-read-if2 : tie.Need-shared-slice-read-if2 Inv-loop μ-loop
-shared-slice-read-if2 c =
-    let l = c .before .before in
-    let b = l .before .before .before in
-    let fits = more-fits _ _ _ _ _ _ (b .before .row-width .ensures) (l .loop .inv) _ (last-is _ _ _ _ (b .used .ensures)) (c .before .loop-test .taken) in
-    omega (arith, fits)
+div-t18 : tie.Need-div-t18 Inv-loop μ-loop
+div-t18 c = omega (arith, c .before .before .before .before .before .before .before .before .row-width .ensures)
 
-sub-t19 : tie.Need-sub-t19 Inv-loop μ-loop
-sub-t19 c = omega (arith, c .before .before .before .loop .inv .place)
-
-div-t20 : tie.Need-div-t20 Inv-loop μ-loop
-div-t20 c = omega (arith, c .before .before .before .before .before .before .before .row-width .ensures)
-
-cast-t21 : tie.Need-cast-t21 Inv-loop μ-loop
-cast-t21 c =
+cast-t19 : tie.Need-cast-t19 Inv-loop μ-loop
+cast-t19 c =
     let l = c .before .before .before in
-    let b = l .before .before .before in
-    let low = found-low _ _ _ _ _ _ (b .before .row-width .ensures) (l .loop .inv) _ (last-is _ _ _ _ (b .used .ensures)) (c .before .before .loop-test .taken) in
+    let b = l .before .before .before .before in
+    let low = found-low _ _ _ _ _ _ _ _ (b .before .row-width .ensures) (l .loop .inv) _ (last-is _ _ _ (b .used .ensures)) (c .before .before .loop-test .taken) in
     omega (arith, low, b .used .ensures)
 
 returns-2 : tie.Need-returns-2 Inv-loop μ-loop
 unfolding foundAt
 returns-2 c =
     let l = c .before .before .before in
-    let b = l .before .before .before in
-    reached-found _ _ _ _ _ _ (b .before .row-width .ensures) (l .loop .inv) _ (last-is _ _ _ _ (b .used .ensures)) (c .before .before .loop-test .taken) (c .if2 .taken)
+    let b = l .before .before .before .before in
+    reached-found _ _ _ _ _ _ _ _ (b .before .row-width .ensures) (l .loop .inv) _ (c .before .has-both-at .ensures) _ (last-is _ _ _ (b .used .ensures)) (c .before .before .loop-test .taken) (c .if2 .taken)
 
 loop-less : tie.Need-loop-less Inv-loop μ-loop
-loop-less c = omega (arith, c .before .before .before .before .before .before .before .row-width .ensures)
+loop-less c = omega (arith, c .before .before .before .before .before .before .before .before .row-width .ensures)
 
 loop-again : tie.Need-loop-again Inv-loop μ-loop
 loop-again c =
     let l = c .before .before .before in
-    reached-more _ _ _ _ _ _ (l .before .before .before .before .row-width .ensures) (l .loop .inv) (c .if2 .left)
+    reached-more _ _ _ _ _ _ _ _ (l .before .before .before .before .before .row-width .ensures) (l .loop .inv) _ (c .before .has-both-at .ensures) (c .if2 .left)
 
 returns-3 : tie.Need-returns-3 Inv-loop μ-loop
 unfolding foundAt
 returns-3 c =
     let l = c .before in
-    let b = l .before .before .before in
-    reached-last _ _ _ _ _ _ (b .before .row-width .ensures) (l .loop .inv) _ (last-is _ _ _ _ (b .used .ensures)) (c .loop-test .left)
+    let b = l .before .before .before .before in
+    reached-last _ _ _ _ _ _ _ _ (b .before .row-width .ensures) (l .loop .inv) _ (last-is _ _ _ (b .used .ensures)) (c .loop-test .left)
 
 pub next-with-spec : {M : Type 1} → statement M
 next-with-spec =
@@ -115,19 +113,19 @@ next-with-spec =
     μ-loop
     row-width-requires
     used-requires
-    cast-used
+    cast-last
     mul-last
-    add-last
+    larger-requires
+    cast-if1
+    add-if1
     next-by-word-requires
     returns
     pass-fours-requires
     loop-holds
     add-at
-    mul-if2
-    shared-slice-read-if2
-    sub-t19
-    div-t20
-    cast-t21
+    has-both-at-requires
+    div-t18
+    cast-t19
     returns-2
     loop-less
     loop-again
