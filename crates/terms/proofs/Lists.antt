@@ -14,20 +14,7 @@ use Rattle.rules.specs.Terms.{listType, isList, elements, isListOf}
 use Rattle.rules.specs.declared.Entry.{Entry}
 use Rattle.rules.proofs.Logic.{and-left, and-right, both, same-true, same-refl}
 use Rattle.terms.specs.Elements.{numbers, surePlace, sureNumber}
-
--- ---- the entries that are handed over
--- the number of entry i of them
-abbrev pub numberAt : List Entry → ℕ → ℕ
-numberAt es i = getD es i (record { 0 = 0 }) .0
-
-numbers-length : (es : List Entry) → length (numbers es) ≡ length es
-numbers-length [] = refl
-numbers-length (e ∷ es) = ap suc (numbers-length es)
-
-number-at : (es : List Entry) (i : ℕ) → getD (numbers es) i 0 ≡ numberAt es i
-number-at [] i = refl
-number-at (e ∷ es) zero = refl
-number-at (e ∷ es) (suc i) = number-at es i
+use Rattle.terms.proofs.Numbers.{numberAt, numbers-length, number-at}
 
 -- ---- an entry and the list that is sought
 module _ (t : Table) (e : ℕ) where
