@@ -1,4 +1,5 @@
 pub mod Logic
+pub mod Stores
 pub mod Walks
 pub mod Words
 pub mod Granting
