@@ -36,6 +36,13 @@ agree-same false false q = refl
 pub never {ℓ} : {A : Type ℓ} {b : Bool} → b ≡ true → b ≡ false → A
 never {b = b} p q = absurd (subst (λ (x : Bool). T x) (sym p ∙ q) tt)
 
+-- two lists that are the same, taken apart
+pub first-of : {x y : ℕ} {xs ys : List ℕ} → x ∷ xs ≡ y ∷ ys → x ≡ y
+first-of q = cc
+
+pub rest-of : {x y : ℕ} {xs ys : List ℕ} → x ∷ xs ≡ y ∷ ys → xs ≡ ys
+rest-of q = cc
+
 -- two lists that the test finds the same are the same
 pub same-true : (xs ys : List ℕ) → same xs ys ≡ true → xs ≡ ys
 unfolding same
