@@ -20,6 +20,7 @@ pub mod Forming
 pub mod Making
 pub mod Stays
 pub mod Margins
+pub mod Created
 pub mod Named
 pub mod EmptyTable
 pub mod Stands

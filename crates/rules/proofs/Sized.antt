@@ -7,6 +7,7 @@ use mathlib.Core.Path.{_≡_, refl}
 use Rattle.rules.specs.Table.{Table, size, rowWidth, largest, capacity, used}
 use Rattle.rules.specs.Terms.{newEntry}
 use Rattle.rules.proofs.Creating.{new-idle}
+use Rattle.rules.proofs.Shaped.{Shaped}
 use Rattle.rules.proofs.Grows.{Grows, grows-most}
 
 -- the number of the first word past the last row
@@ -17,6 +18,9 @@ pub record Sized (t : Table) : Type 0 where
   pub long : runEnd t ≤ size t
   pub room : used t ≤ capacity t
   pub small : capacity t ≤ 512
+
+pub sized-shaped : {t : Table} → Shaped t → Sized t
+sized-shaped s = record { long = s .long; room = s .room; small = s .small }
 
 -- the row of an entry lies before that word
 pub row-before : (t : Table) (e : ℕ) → e ≤ capacity t → rowWidth t * e + rowWidth t ≤ runEnd t
