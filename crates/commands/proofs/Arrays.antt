@@ -8,7 +8,7 @@ use mathlib.Core.List.{List, [], _∷_, _++_, map}
 use lib.ListN.{length, getD, set, take, replicate}
 use Rattle.rules.specs.Choice.{every, sumOf}
 use Rattle.rules.specs.declared.Handle.{Handle}
-use Rattle.rules.proofs.Logic.{and-left, and-right, both, never, every-at, mem-take}
+use Rattle.rules.proofs.Logic.{and-left, and-right, both, never, fails, every-at, mem-take}
 use Rattle.beside.specs.Beside.{numbersBeside}
 
 -- ---- over the first i + 1 numbers
@@ -27,11 +27,7 @@ every-next f i xs p q = rw add-one (every-suc f i xs p q)
 
 -- one of the first n fails
 pub every-fails : (f : ℕ → Bool) (n i : ℕ) (xs : List ℕ) → i < n → i < length xs → f (getD xs i 0) ≡ false → every f (take n xs) ≡ false
-every-fails f n i xs a b q = go (every f (take n xs)) refl
-  where
-    go : (x : Bool) → every f (take n xs) ≡ x → x ≡ false
-    go true h = never (every-at f (take n xs) h (getD xs i 0) (mem-take n xs i a b)) q
-    go false h = refl
+every-fails f n i xs a b q = fails (every f (take n xs)) (λ h. never (every-at f (take n xs) h (getD xs i 0) (mem-take n xs i a b)) q)
 
 pub sum-none : (f : ℕ → ℕ) (xs : List ℕ) → sumOf f (take 0 xs) ≡ 0
 unfolding sumOf

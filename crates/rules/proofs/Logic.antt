@@ -22,6 +22,10 @@ and-right false b e = cc
 pub both : {a b : Bool} → a ≡ true → b ≡ true → a and b ≡ true
 both p q = rw (p, q)
 
+pub and-true : (b : Bool) → b and true ≡ b
+and-true true = refl
+and-true false = refl
+
 pub or-right : (a b : Bool) → b ≡ true → a or b ≡ true
 or-right true b e = refl
 or-right false b e = e
@@ -35,6 +39,11 @@ agree-same false false q = refl
 -- a test that passes and doesn't
 pub never {ℓ} : {A : Type ℓ} {b : Bool} → b ≡ true → b ≡ false → A
 never {b = b} p q = absurd (subst (λ (x : Bool). T x) (sym p ∙ q) tt)
+
+-- a test that cannot pass fails
+pub fails : (b : Bool) → (b ≡ true → ⊥) → b ≡ false
+fails true h = absurd (h refl)
+fails false h = refl
 
 -- two lists that are the same, taken apart
 pub first-of : {x y : ℕ} {xs ys : List ℕ} → x ∷ xs ≡ y ∷ ys → x ≡ y
