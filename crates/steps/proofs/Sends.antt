@@ -20,14 +20,6 @@ use Rattle.rules.proofs.Needs.{unless-none, unless-some, named-count, alone-cou
 use Rattle.rows.specs.Row.{seven}
 use Rattle.steps.specs.Sending.{madeAt, addUnless, refusalFor}
 
--- the two halves of an outcome
-pub halves : {o o′ : Outcome} → o ≡ o′ → (o .answer ≡ o′ .answer) × (o .table ≡ o′ .table)
-halves q = (ap (λ (x : Outcome). x .answer) q, ap (λ (x : Outcome). x .table) q)
-
--- an outcome that was met, by another name
-pub carried : {a : List ℕ} {t : Table} {o o′ : Outcome} → (a ≡ o .answer) × (t ≡ o .table) → o ≡ o′ → (a ≡ o′ .answer) × (t ≡ o′ .table)
-carried p q = (p .0 ∙ halves q .0, p .1 ∙ halves q .1)
-
 -- ---- room
 refused-some : (t : Table) (rest : Outcome) (a b : Bool) (n : ℕ) → n ≡ refusalFor a b → (n ≡ 0 → ⊥)
     → need a 9 t (need b 10 t rest) ≡ gives (refused n) t
