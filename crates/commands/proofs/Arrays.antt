@@ -1,5 +1,4 @@
--- Arrays of four entries: their numbers; tests and sums over the first numbers of an array, one further; and the first of four handles put
--- through a function. Assumes nothing.
+-- Tests and sums over the first numbers of an array, one further; and the first of four handles put through a function. Assumes nothing.
 use Prim.Native.Nat.{ℕ, zero, suc, _+_, _≤_, _<_}
 use native.Mathlib.Numerals.{add-one}
 use native.Mathlib.Omega.{arith}
@@ -8,29 +7,9 @@ use mathlib.Core.Bool.{Bool, true, false}
 use mathlib.Core.List.{List, [], _∷_, _++_, map}
 use lib.ListN.{length, getD, set, take, replicate}
 use Rattle.rules.specs.Choice.{every, sumOf}
-use Rattle.rules.specs.declared.Entry.{Entry}
 use Rattle.rules.specs.declared.Handle.{Handle}
-use Rattle.rules.proofs.Logic.{and-left, and-right, both, never, every-at, mem-take}
-use Rattle.terms.specs.Elements.{numbers}
+use Rattle.rules.proofs.Logic.{and-left, and-right, both, never, fails, every-at, mem-take}
 use Rattle.beside.specs.Beside.{numbersBeside}
-
--- ---- the numbers of an array
-abbrev pub entryAt : List Entry → ℕ → ℕ
-entryAt es i = getD es i (record { 0 = 0 }) .0
-
-pub entries-length : (es : List Entry) → length (numbers es) ≡ length es
-entries-length [] = refl
-entries-length (e ∷ es) = ap suc (entries-length es)
-
-pub entry-at : (es : List Entry) (i : ℕ) → getD (numbers es) i 0 ≡ entryAt es i
-entry-at [] i = refl
-entry-at (e ∷ es) zero = refl
-entry-at (e ∷ es) (suc i) = entry-at es i
-
-pub entries-set : (es : List Entry) (i : ℕ) (e : Entry) → numbers (set es i e) ≡ set (numbers es) i (e .0)
-entries-set [] i e = refl
-entries-set (x ∷ es) zero e = refl
-entries-set (x ∷ es) (suc i) e = ap (λ (xs : List ℕ). x .0 ∷ xs) (entries-set es i e)
 
 -- ---- over the first i + 1 numbers
 pub every-none : (f : ℕ → Bool) (xs : List ℕ) → every f (take 0 xs) ≡ true
@@ -48,11 +27,7 @@ every-next f i xs p q = rw add-one (every-suc f i xs p q)
 
 -- one of the first n fails
 pub every-fails : (f : ℕ → Bool) (n i : ℕ) (xs : List ℕ) → i < n → i < length xs → f (getD xs i 0) ≡ false → every f (take n xs) ≡ false
-every-fails f n i xs a b q = go (every f (take n xs)) refl
-  where
-    go : (x : Bool) → every f (take n xs) ≡ x → x ≡ false
-    go true h = never (every-at f (take n xs) h (getD xs i 0) (mem-take n xs i a b)) q
-    go false h = refl
+every-fails f n i xs a b q = fails (every f (take n xs)) (λ h. never (every-at f (take n xs) h (getD xs i 0) (mem-take n xs i a b)) q)
 
 pub sum-none : (f : ℕ → ℕ) (xs : List ℕ) → sumOf f (take 0 xs) ≡ 0
 unfolding sumOf

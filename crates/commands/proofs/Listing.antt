@@ -16,8 +16,8 @@ use Rattle.rules.specs.declared.Entry.{Entry}
 use Rattle.rules.proofs.Needs.{need-goes}
 use Rattle.rows.specs.Row.{seven}
 use Rattle.terms.specs.Elements.{numbers}
+use Rattle.terms.proofs.Numbers.{numberAt, numbers-length}
 use Rattle.commands.proofs.Ways.{need-fails, gives-new}
-use Rattle.commands.proofs.Arrays.{entryAt, entries-length}
 
 -- ---- what may not be listed
 pub secret : (t : Table) (e y : ℕ) → y ≡ typeAt t e → y ≡ 5 → mayBeListed t e ≡ false
@@ -43,17 +43,17 @@ pub new-list : (t : Table) (n : ℕ) (es : List Entry) (s : ℕ) → n ≤ 4 →
     → numbers es ≡ take 4 (take n (numbers es) ++ replicate 4 0) → s ≡ sumOf (lengthAt t) (take n (numbers es))
     → giveNew t (list (take n (numbers es)))
     ≡ needRoom t ((2 + s) ∷ [])
-    (givesHandle (addEntry t (seven 3 n (entryAt es 0 ∷ entryAt es 1 ∷ entryAt es 2 ∷ entryAt es 3 ∷ []) (2 + s))) (newEntry t))
+    (givesHandle (addEntry t (seven 3 n (numberAt es 0 ∷ numberAt es 1 ∷ numberAt es 2 ∷ numberAt es 3 ∷ []) (2 + s))) (newEntry t))
 unfolding typeOf argumentsOf numbersOf listLength lengthOf seven
 new-list t n es s l four zeros sum =
-    gives-new t (list (take n (numbers es))) (2 + s) (seven 3 n (entryAt es 0 ∷ entryAt es 1 ∷ entryAt es 2 ∷ entryAt es 3 ∷ []) (2 + s))
+    gives-new t (list (take n (numbers es))) (2 + s) (seven 3 n (numberAt es 0 ∷ numberAt es 1 ∷ numberAt es 2 ∷ numberAt es 3 ∷ []) (2 + s))
     (ap (λ (x : ℕ). 2 + x) (sym sum))
     (rw (count, ← zeros) (ap (λ (ys : List ℕ). 3 ∷ n ∷ ys) (go es four)))
   where
     count : length (take n (numbers es)) ≡ n
-    count = length-take n (numbers es) ∙ omega (arith, entries-length es)
+    count = length-take n (numbers es) ∙ omega (arith, numbers-length es)
 
-    go : (es : List Entry) → length es ≡ 4 → numbers es ++ ((2 + s) ∷ []) ≡ entryAt es 0 ∷ entryAt es 1 ∷ entryAt es 2 ∷ entryAt es 3 ∷ (2 + s) ∷ []
+    go : (es : List Entry) → length es ≡ 4 → numbers es ++ ((2 + s) ∷ []) ≡ numberAt es 0 ∷ numberAt es 1 ∷ numberAt es 2 ∷ numberAt es 3 ∷ (2 + s) ∷ []
     go [] h = absurd (omega arith)
     go (a ∷ []) h = absurd (omega arith)
     go (a ∷ b ∷ []) h = absurd (omega arith)

@@ -1,6 +1,6 @@
 -- The ways that a command goes, in the facts that the code has on each. Assumes nothing.
 use Prim.Native.Nat.{ℕ}
-use mathlib.Core.Path.{_≡_, refl, sym, ap, _∙_}
+use mathlib.Core.Path.{_≡_, refl}
 use mathlib.Core.Bool.{Bool, true, false}
 use mathlib.Core.List.{List, [], _∷_}
 use types.Run.{OneOf}
@@ -17,10 +17,6 @@ use Rattle.rules.specs.declared.Found.{Found}
 use Rattle.rules.specs.declared.Found.the-variants.{At}
 use Rattle.rules.proofs.Found.{the-type}
 use Rattle.rows.proofs.Search.{found, nothing}
-
--- ---- what a command gives, by an equation of outcomes
-pub ends : {o o′ : Outcome} {a : List ℕ} {s : Table} → o′ ≡ o → (a ≡ o .answer) × (s ≡ o .table) → (a ≡ o′ .answer) × (s ≡ o′ .table)
-ends q p = (p .0 ∙ sym (ap (λ (x : Outcome). x .answer) q), p .1 ∙ sym (ap (λ (x : Outcome). x .table) q))
 
 pub need-fails : {b : Bool} (n : ℕ) (t : Table) (rest : Outcome) → b ≡ false → need b n t rest ≡ gives (refused n) t
 unfolding need

@@ -2,7 +2,7 @@
 use Prim.Native.Nat.{ℕ, zero, suc, _+_, _<_}
 use native.Mathlib.Omega.{arith}
 use mathlib.Core.Path.{_≡_, refl}
-use mathlib.Core.Bool.{Bool, true, false}
+use mathlib.Core.Bool.{Bool, true}
 use mathlib.Core.List.{List, [], _∷_}
 use lib.Dec.{ltb}
 use lib.ListN.{take, drop}
@@ -82,8 +82,3 @@ module _ (t : Table) (e : ℕ) where
       + (if ltb 2 (countAt t e) then f (argument t e 3) else 0) + (if ltb 3 (countAt t e) then f (argument t e 4) else 0)
   unfolding elements arguments
   lengths-are f = sum-taken _ _ _ _ f (countAt t e)
-
--- a list's test ends in one that passes
-pub and-true : (b : Bool) → b and true ≡ b
-and-true true = refl
-and-true false = refl

@@ -14,7 +14,7 @@ use Rattle.rules.specs.Choice.{_or_, if_then_else_, count}
 use Rattle.rules.specs.Table.{Table, size, most, rowWidth, wordsFor, version, participants, capacity, word, used, nextHandle, handle, everyKnower}
 use Rattle.rules.specs.Handles.{holds, held}
 use Rattle.rules.specs.WellFormed.{runIsLong, usedFits, mayHold, handleIsBelow, handlesFit}
-use Rattle.rules.proofs.Logic.{and-right, never}
+use Rattle.rules.proofs.Logic.{and-right, never, fails}
 use Rattle.rules.proofs.Walks.{all-at, count-next}
 use Rattle.rules.proofs.Words.{most-high, word-head}
 use Rattle.rules.proofs.Granting.{handle-in, next-in}
@@ -73,11 +73,7 @@ turned t e k one ns known q b = record {
 module _ (t : Table) where
   -- a test that some knower fails, and one that no such knower passes
   knowers-fail : (f g : ℕ → Bool) → ((k : ℕ) → k ≤ most t → g k ≡ true → f k ≡ true) → everyKnower t f ≡ false → everyKnower t g ≡ false
-  knowers-fail f g h q = go (everyKnower t g) refl
-    where
-      go : (x : Bool) → everyKnower t g ≡ x → x ≡ false
-      go false p = refl
-      go true p = never (knower-from t f (λ k known. h k known (knower-at t g p k known))) q
+  knowers-fail f g h q = fails (everyKnower t g) (λ p. never (knower-from t f (λ k known. h k known (knower-at t g p k known))) q)
 
   -- a handle on a used entry that isn't below its knower's next one
   pub row-fails : (e : ℕ) → e < used t → everyKnower t (handleIsBelowAt t (e + 1)) ≡ false

@@ -20,14 +20,10 @@ use Rattle.rules.specs.declared.Entry.{Entry}
 use Rattle.rules.specs.declared.Found.{Found}
 use Rattle.rules.specs.declared.Found.the-variants.{At, Nothing}
 use Rattle.rules.proofs.Found.{the-type}
-use Rattle.rules.proofs.Logic.{and-left, and-right, both, never}
+use Rattle.rules.proofs.Logic.{and-left, and-right, both, never, fails}
 use Rattle.rules.proofs.Walks.{Lowest, nowhere, somewhere, lowest-is, lowest-first, lowest-same}
 use Rattle.rules.proofs.Meaning.{scan-found, scan-nothing}
 use Rattle.rows.specs.Search.{hasBoth, passesAbove, nextWith, NoneTo, Reached}
-
-fails : (b : Bool) → (b ≡ true → ⊥) → b ≡ false
-fails true h = absurd (h refl)
-fails false h = refl
 
 -- ---- no number of 1 to n passes the test
 module _ (f : ℕ → Bool) (n : ℕ) where

@@ -9,12 +9,12 @@ use mathlib.Core.Bool.{Bool, true, false}
 use Rattle.rules.specs.Table.{Table, most, used, nextHandle, handle}
 use Rattle.rules.specs.Handles.{holds, held, grant}
 use Rattle.rules.proofs.Walks.{count-le, count-stop, count-same, count-more}
-use Rattle.rules.proofs.Granting.{none-holds, some-holds, holds-same, grant-held, grant-beyond, grant-handle, grant-handle-other, grant-next}
+use Rattle.rules.proofs.Granting.{none-holds, some-holds, holds-same, grant-held, grant-beyond, grant-handle-other, grant-next}
 use Rattle.rules.proofs.Creating.{raised-idle}
 use Rattle.rules.proofs.Shaped.{Used}
 use Rattle.rules.proofs.Grows.{Grows, grant-grows, grant-used}
 use Rattle.rules.proofs.Holding.{Untouched, grant-untouched}
-use Rattle.rules.proofs.Sized.{Sized, sized-row, sized-head, sized-low}
+use Rattle.rules.proofs.Sized.{Sized, sized-row, sized-head, sized-low, sized-handle}
 
 pub record Counted (t : Table) (k : ℕ) : Type 0 where
   pub next : nextHandle t k ≡ 1 + held t k
@@ -45,7 +45,7 @@ module _ (t : Table) (k e : ℕ) (z : Sized t) (w : Used t e) (knower : k ≤ mo
   same = grant-used t k e (w .low)
 
   gets : handle (grant t k e) k e ≡ nextHandle t k
-  gets = grant-handle t k e (w .low) knower (sized-head z) (sized-row z e (omega (arith, z .room, w .high))) new
+  gets = sized-handle z k e w knower new
 
   raises : nextHandle (grant t k e) k ≡ nextHandle t k + 1
   unfolding held

@@ -11,7 +11,7 @@ use Rattle.rules.specs.Choice.{_or_, all, count}
 use Rattle.rules.specs.Table.{Table, size, most, rowWidth, wordsFor, version, participants, capacity, used, nextHandle, everyKnower}
 use Rattle.rules.specs.Handles.{holds, held}
 use Rattle.rules.specs.WellFormed.{runIsLong, headFits, usedFits, keysFit, entryFits, mayHold, handleIsBelow, handlesFit, wellFormed}
-use Rattle.rules.proofs.Logic.{and-left, and-right, both, or-right, never}
+use Rattle.rules.proofs.Logic.{and-left, and-right, both, or-right, never, fails}
 use Rattle.rules.proofs.Walks.{all-at, all-from, count-stop}
 use Rattle.rules.proofs.Words.{most-of}
 use Rattle.rules.proofs.Granting.{none-holds, handle-out, next-out}
@@ -43,11 +43,7 @@ unfolding everyKnower
 knower-from t f h = both (h 0 (omega arith)) (all-from f (most t) (λ k a b. h k b))
 
 pub knower-fails : (t : Table) (f : ℕ → Bool) (k : ℕ) → k ≤ most t → f k ≡ false → everyKnower t f ≡ false
-knower-fails t f k l q = go (everyKnower t f) refl
-  where
-    go : (x : Bool) → everyKnower t f ≡ x → x ≡ false
-    go true h = never (knower-at t f h k l) q
-    go false h = refl
+knower-fails t f k l q = fails (everyKnower t f) (λ h. never (knower-at t f h k l) q)
 
 -- ---- one knower
 -- a knower past the form's holds nothing

@@ -10,30 +10,34 @@ use mathlib.Core.List.{List, [], _∷_, List·Memᴰ·head, List·Memᴰ·tail}
 use lib.Dec.{eqb}
 use borrow.Author.Tests.{eq-eqb}
 use Rattle.rules.specs.Choice.{_and_}
-use Rattle.rules.specs.Table.{Table, size, most, rowWidth, word, largest, participants, mask, capacity, used, sparesFit, typeAt, argument, handle, honest, everyKnower}
+use Rattle.rules.specs.Table.{Table, most, participants, mask, capacity, used, sparesFit, typeAt, argument, handle, honest, everyKnower}
 use Rattle.rules.specs.Terms.{Term, secretKeyType, publicKeyType, secretKeyOf, publicKeyOf, typeOf, numbersOf, newEntry, create}
 use Rattle.rules.specs.Handles.{holds, grant, grantEach}
 use Rattle.rules.specs.SetUp.{holdsSecretKey, holdsPublicKey}
 use Rattle.rules.specs.WellFormed.{headFits, heldAsNamed, isSecretKeyOf, isPublicKeyOf, keysFit, entryFits, mayHold}
 use Rattle.rules.proofs.Logic.{or-right, never}
 use Rattle.rules.proofs.Walks.{all-same}
-use Rattle.rules.proofs.Granting.{grant-held, grant-most, grant-spare, grant-handle-other}
-use Rattle.rules.proofs.Creating.{new-idle, new-real, numbers-seven, create-word, create-term}
+use Rattle.rules.proofs.Granting.{grant-held, grant-handle-other}
 use Rattle.rules.proofs.Shaped.{Used, Person}
-use Rattle.rules.proofs.Grows.{Grows, grows-most, grows-honest, grant-grows, grant-used, add-used, add-grows}
-use Rattle.rules.proofs.Holding.{Untouched, grant-untouched, add-untouched}
-use Rattle.rules.proofs.Sized.{Sized, sized-row}
+use Rattle.rules.proofs.Grows.{Grows, grows-most, grows-honest, grant-grows, grant-used}
+use Rattle.rules.proofs.Holding.{Untouched, grant-untouched}
+use Rattle.rules.proofs.Sized.{Sized, sized-shaped, sized-new}
 use Rattle.rules.proofs.Counted.{untouched-held, counted-untouched, counted-grant}
 use Rattle.rules.proofs.Formed.{Knower, Formed}
-use Rattle.rules.proofs.Shaping.{KeyPlace, secret, public, key-place, later-low, honest-knower, shape}
-use Rattle.rules.proofs.Rows.{Reads}
+use Rattle.rules.proofs.Shaping.{KeyPlace, secret, public, key-place, later-low, shape}
+use Rattle.rules.proofs.Margins.{Margins, grant-margins}
+use Rattle.rules.proofs.Created.{Created, created}
 use Rattle.rules.proofs.Entries.{Open, AllOpen, Fits, word-grows, all-grow, parts-later, fits-kept, fits-new}
 
 -- ---- what a later table keeps
 module _ {t t′ : Table} (g : Grows t t′) where
-  head-kept : sparesFit t′ ≡ sparesFit t → headFits t ≡ true → headFits t′ ≡ true
+  spares-kept : Margins t t′ → sparesFit t′ ≡ sparesFit t
+  unfolding sparesFit
+  spares-kept m = rw (grows-most g, m .spare (6 + most t) (omega arith) (omega arith), m .spare (7 + most t) (omega arith) (omega arith)) refl
+
+  head-kept : Margins t t′ → headFits t ≡ true → headFits t′ ≡ true
   unfolding headFits
-  head-kept s h = rw (s, g .head 0 (omega arith), g .head 1 (omega arith), g .head 2 (omega arith), g .head 3 (omega arith)) h
+  head-kept m h = rw (spares-kept m, g .head 0 (omega arith), g .head 1 (omega arith), g .head 2 (omega arith), g .head 3 (omega arith)) h
 
   -- a key's holders, where its handles are the same
   named-same : (named : ℕ → Bool) (e : ℕ) → ((k : ℕ) → handle t′ k e ≡ handle t k e)
@@ -72,12 +76,12 @@ module _ {t t′ : Table} (g : Grows t t′) where
   knower-kept k v n = record { may = rw (may-kept k, untouched-held g v) (n .may); counted = counted-untouched g v (n .counted) }
 
   -- the whole, where the keys are held as before, and what is new fits
-  formed-kept : Formed t → sparesFit t′ ≡ sparesFit t → used t′ ≤ capacity t
+  formed-kept : Formed t → Margins t t′ → used t′ ≤ capacity t
       → ((k e : ℕ) → 1 ≤ e → e ≤ 2 * participants t → handle t′ k e ≡ handle t k e)
       → ((e : ℕ) → used t < e → e ≤ used t′ → entryFits t′ e ≡ true) → ((k : ℕ) → Knower t′ k) → Formed t′
-  formed-kept f s r h new knows = record {
+  formed-kept f m r h new knows = record {
     long = rw (grows-most g, g .head 3 (omega arith), g .run) (f .long);
-    head = head-kept s (f .head);
+    head = head-kept m (f .head);
     keyed = omega (arith, f .keyed, g .more, g .head 1 (omega arith));
     room = omega (arith, g .head 3 (omega arith));
     keys = λ p w. keys-kept f h p (record { low = w .low; high = omega (arith, w .high, g .head 1 (omega arith)) });
@@ -91,91 +95,44 @@ module _ {t t′ : Table} (g : Grows t t′) where
 
 -- the run has the row of every entry up to the capacity
 sized : (t : Table) → Formed t → Sized t
-sized t f = record { long = f .long; room = f .room; small = shape t f .small }
+sized t f = sized-shaped (shape t f)
 
 -- ---- creating
 module _ (t : Table) (f : Formed t) (x : Term) (l : ℕ) (fits : Fits t x l) (more : used t < capacity t) where
-  small : used t < largest
-  unfolding largest
-  small = omega (arith, shape t f .small)
-
-  row : rowWidth t * newEntry t + rowWidth t ≤ size t
-  row = sized-row (sized t f) (newEntry t) (omega (arith, new-idle t small))
-
-  run : rowWidth t ≤ size t
-  run = omega (arith, f .long)
-
-  pub create-new : newEntry t ≡ used t + 1
-  create-new = new-idle t small
-
-  pub create-count : used (create t x l) ≡ used t + 1
-  unfolding create
-  create-count = add-used t (numbersOf x l) (numbers-seven x l) small run row
-
-  pub create-grows : Grows t (create t x l)
-  unfolding create
-  create-grows = add-grows t (numbersOf x l) (numbers-seven x l) small run row
-
-  pub create-reads : Reads (create t x l) (newEntry t) x l
-  unfolding create
-  create-reads i h = create-term t (numbersOf x l) (numbers-seven x l) row i h
-
-  untouched : (k : ℕ) → Untouched k t (create t x l)
-  unfolding create
-  untouched k = add-untouched t (numbersOf x l) (numbers-seven x l) small run row k
-
-  spare : (i : ℕ) → 5 ≤ i → i < rowWidth t → word (create t x l) 0 i ≡ word t 0 i
-  unfolding create
-  spare i a b = create-word t (numbersOf x l) (numbers-seven x l) row 0 i b (λ q. omega (arith, new-real t)) (λ q r. omega arith)
-
-  spares : sparesFit (create t x l) ≡ sparesFit t
-  unfolding sparesFit
-  spares =
-      rw (grows-most create-grows, spare (6 + most t) (omega arith) (omega arith), spare (7 + most t) (omega arith) (omega arith)) refl
+  pub create-leaves : Created t x l
+  create-leaves = created t x l (sized t f) more
 
   pub create-formed : Formed (create t x l)
-  create-formed = formed-kept create-grows f spares (omega (arith, create-count))
-      (λ k e a b. untouched k .old e (record { low = a; high = omega (arith, f .keyed) }))
+  create-formed =
+      let c = create-leaves in
+      formed-kept (c .grows) f (c .margins) (omega (arith, c .one))
+      (λ k e a b. c .untouched k .old e (record { low = a; high = omega (arith, f .keyed) }))
       (λ e a b.
-      let q : newEntry t ≡ e = omega (arith, create-new, create-count) in
-      fits-new t (create t x l) create-grows e a x l (rw q at create-reads) fits)
-      (λ k. knower-kept create-grows k (untouched k) (f .knowers k))
+      let q : newEntry t ≡ e = omega (arith, sized-new (sized t f), c .one) in
+      fits-new t (create t x l) (c .grows) e a x l (rw q at (c .reads)) fits)
+      (λ k. knower-kept (c .grows) k (c .untouched k) (f .knowers k))
 
   pub create-type : typeAt (create t x l) (newEntry t) ≡ typeOf x
   unfolding numbersOf
-  create-type = create-reads 0 (omega arith)
+  create-type = create-leaves .reads 0 (omega arith)
 
   pub create-open : Open (create t x l) (newEntry t)
   create-open = record {
-    uses = record { low = new-real t; high = omega (arith, create-new, create-count) };
+    uses = create-leaves .uses;
     other = λ q. omega (arith, create-type, later-low (typeOf x) (parts-later t x (fits .parts)));
   }
 
 -- ---- granting
--- one who may hold entries is a knower of the form
-holder-in : (t : Table) (k : ℕ) → (k ≡ 0) ⊎ (honest t k ≡ true) → k ≤ most t
-holder-in t k (inl z) = omega arith
-holder-in t k (inr h) = honest-knower t k h .0
-
 pub holder-grows : {t t′ : Table} → Grows t t′ → (k : ℕ) → (k ≡ 0) ⊎ (honest t k ≡ true) → (k ≡ 0) ⊎ (honest t′ k ≡ true)
 holder-grows g k (inl z) = inl z
 holder-grows g k (inr h) = inr (grows-honest g k ∙ h)
 
 module _ (t : Table) (f : Formed t) (k e : ℕ) (o : Open t e) (may : (k ≡ 0) ⊎ (honest t k ≡ true)) where
-  knower : k ≤ most t
-  knower = holder-in t k may
-
   grows : Grows t (grant t k e)
   grows = grant-grows t k e (o .uses .low)
 
-  same-spares : sparesFit (grant t k e) ≡ sparesFit t
-  unfolding sparesFit
-  same-spares =
-      rw (
-        grant-most t k e,
-        grant-spare t k e (6 + most t) (o .uses .low) knower (omega arith) (omega arith),
-        grant-spare t k e (7 + most t) (o .uses .low) knower (omega arith) (omega arith),
-      ) refl
+  margins : Margins t (grant t k e)
+  margins = grant-margins t k e (o .uses .low) (omega (arith, o .uses .high, f .room))
 
   -- a public key is held already
   no-key : holds t k e ≡ false → 2 * participants t < e
@@ -203,7 +160,7 @@ module _ (t : Table) (f : Formed t) (k e : ℕ) (o : Open t e) (may : (k ≡ 0) 
         record { may = rw may-hold refl; counted = counted-grant t k e (sized t f) (o .uses) k (f .knowers k .counted) }
 
     new-formed : Formed (grant t k e)
-    new-formed = formed-kept grows f same-spares (omega (arith, grant-used t k e (o .uses .low), f .room))
+    new-formed = formed-kept grows f margins (omega (arith, grant-used t k e (o .uses .low), f .room))
         (λ j x a b. grant-handle-other t k e j x a (λ q r. omega (arith, no-key new)))
         (λ x a b. absurd (omega (arith, grant-used t k e (o .uses .low))))
         (λ j. go j (ℕ-discrete j k))

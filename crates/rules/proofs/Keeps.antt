@@ -2,12 +2,12 @@
 -- Assumes nothing.
 use Prim.Native.Nat.{ℕ, _-_, _≤_}
 use native.Mathlib.Omega.{arith}
-use mathlib.Core.Path.{_≡_, refl, sym, ap, _∙_}
+use mathlib.Core.Path.{_≡_, refl, sym, _∙_}
 use mathlib.Core.Logic.{_≢_}
 use mathlib.Core.Bool.{Bool, true, false}
 use mathlib.Core.List.{List, [], _∷_}
 use lib.Dec.{eqb, leb}
-use lib.ListN.{length, getD}
+use lib.ListN.{length}
 use Rattle.rules.specs.Choice.{if_then_else_, every}
 use Rattle.rules.specs.Table.{Table, used, capacity}
 use Rattle.rules.specs.Terms.{Term, lengthOf, newEntry, create, findDatum, findList}
@@ -18,6 +18,7 @@ use Rattle.rules.specs.Outcome.{Outcome, gives, ready, refused, dropped,
 use Rattle.rules.specs.Commands.{giveNew, giveFoundOrNew, store, newNonce, makeListOf, makeList, projectOf, project, encryptOf, encrypt, decryptOf, decrypt, parseOf, parse}
 use Rattle.rules.specs.Steps.{Made, send, sendNamed, start, Message, first, second, third, none, readMessage, answerFirst, answerSecond, answerMessage, deliverList, deliver}
 use Rattle.rules.specs.Machine.{Request, Start, Deliver, Store, Nonce, MakeList, Project, Encrypt, Decrypt, Parse, act, step, setUp}
+use Rattle.rules.proofs.Logic.{first-of, rest-of}
 
 -- ---- an outcome refuses, with no lower number than the given one, or drops or does something, judged by its answer's number
 pub data Kept (low : ℕ) (t : Table) (o : Outcome) : Type 0 where
@@ -118,20 +119,16 @@ kept-step r t = kept-need (wellFormed t) 1 t _ (omega arith) (omega arith) (lowe
     lower (does n vs p m d) = does n vs p m d
 
 -- ---- the statements
--- the first number of two answers that are the same
-same-number : {a b : ℕ} {xs ys : List ℕ} → a ∷ xs ≡ b ∷ ys → a ≡ b
-same-number q = ap (λ (l : List ℕ). getD l 0 0) q
-
 -- a refusal has a number from 1 to 10 and leaves every word
 pub refused-keeps : (r : Request) (t : Table) (k : ℕ) → step r t .answer ≡ refused k → (step r t .table ≡ t) × (1 ≤ k) × (k ≤ 10)
 refused-keeps r t k q = go (kept-step r t)
   where
     go : Kept 1 t (step r t) → (step r t .table ≡ t) × (1 ≤ k) × (k ≤ 10)
     go (refuses n a b p z) =
-        let e : n ≡ k = ap (λ (l : List ℕ). getD l 1 0) (sym p ∙ q) in
+        let e : n ≡ k = first-of (rest-of (sym p ∙ q)) in
         (z, omega arith, omega arith)
-    go (drops p z) = let e : _≡_ {A = ℕ} 4 7 = same-number (sym p ∙ q) in absurd (omega arith)
-    go (does n vs p m d) = absurd (m (same-number (sym p ∙ q)))
+    go (drops p z) = let e : _≡_ {A = ℕ} 4 7 = first-of (sym p ∙ q) in absurd (omega arith)
+    go (does n vs p m d) = absurd (m (first-of (sym p ∙ q)))
 
 -- a message that is dropped leaves every word
 pub dropped-keeps : (r : Request) (t : Table) → step r t .answer ≡ dropped → step r t .table ≡ t
@@ -140,7 +137,7 @@ dropped-keeps r t q = go (kept-step r t)
     go : Kept 1 t (step r t) → step r t .table ≡ t
     go (refuses n a b p z) = z
     go (drops p z) = z
-    go (does n vs p m d) = absurd (d (same-number (sym p ∙ q)))
+    go (does n vs p m d) = absurd (d (first-of (sym p ∙ q)))
 
 pub need-same : (b : Bool) (k : ℕ) (t : Table) (rest : Outcome) → rest .table ≡ t → need b k t rest .table ≡ t
 unfolding need
@@ -160,8 +157,8 @@ set-up-refuses n m c t k = go (setUpFits t n m c)
     go : (b : Bool)
         → (if b then gives (ready (used (setUpTable t n m c))) (setUpTable t n m c) else gives (refused 2) t) .answer ≡ refused k
         → (k ≡ 2) × ((if b then gives (ready (used (setUpTable t n m c))) (setUpTable t n m c) else gives (refused 2) t) .table ≡ t)
-    go true q = let e : _≡_ {A = ℕ} 1 7 = same-number q in absurd (omega arith)
-    go false q = (sym (ap (λ (l : List ℕ). getD l 1 0) q), refl)
+    go true q = let e : _≡_ {A = ℕ} 1 7 = first-of q in absurd (omega arith)
+    go false q = (sym (first-of (rest-of q)), refl)
 
 -- ---- the test that the table is well formed
 pub not-formed : (r : Request) (t : Table) → wellFormed t ≡ false → step r t ≡ gives (refused 1) t
@@ -178,6 +175,6 @@ unfolding step need
 formed-passes r t w = rw w (λ q. go q (kept-act r t))
   where
     go : act r t .answer ≡ refused 1 → Kept 3 t (act r t) → ⊥
-    go q (refuses n a b p z) = let e : n ≡ 1 = ap (λ (l : List ℕ). getD l 1 0) (sym p ∙ q) in omega arith
-    go q (drops p z) = let e : _≡_ {A = ℕ} 4 7 = same-number (sym p ∙ q) in omega arith
-    go q (does n vs p m d) = m (same-number (sym p ∙ q))
+    go q (refuses n a b p z) = let e : n ≡ 1 = first-of (rest-of (sym p ∙ q)) in omega arith
+    go q (drops p z) = let e : _≡_ {A = ℕ} 4 7 = first-of (sym p ∙ q) in omega arith
+    go q (does n vs p m d) = m (first-of (sym p ∙ q))

@@ -1,4 +1,5 @@
 pub mod Logic
+pub mod Stores
 pub mod Walks
 pub mod Words
 pub mod Granting
@@ -19,6 +20,7 @@ pub mod Forming
 pub mod Making
 pub mod Stays
 pub mod Margins
+pub mod Created
 pub mod Named
 pub mod EmptyTable
 pub mod Stands

@@ -11,7 +11,7 @@ use lib.ListN.{length, length-append}
 use borrow.Author.Tests.{lt-ltb, le-ltb, ne-eqb, leb-true}
 use Rattle.rules.specs.Choice.{if_then_else_, every}
 use Rattle.rules.specs.Outcome.{accepted}
-use Rattle.rules.proofs.Logic.{and-left, and-right}
+use Rattle.rules.proofs.Logic.{and-left, and-right, first-of, rest-of}
 use Rattle.rules.specs.Player.{ascii, digits, decimal, wordOf, spaced, lineOf, linesFrom, ontoFirst, cutLines}
 
 -- ---- plain bytes: none is a space or a line feed
@@ -61,12 +61,6 @@ unfolding decimal
 decimal-injective m n q = sym (digits-value m m (omega arith)) ∙ ap (value 0) q ∙ digits-value n n (omega arith)
 
 -- ---- where plain bytes end, by the first byte that isn't
-first-of : {c d : ℕ} {cs ds : List ℕ} → c ∷ cs ≡ d ∷ ds → c ≡ d
-first-of q = cc
-
-rest-of : {c d : ℕ} {cs ds : List ℕ} → c ∷ cs ≡ d ∷ ds → cs ≡ ds
-rest-of q = cc
-
 pub record Parts (xs ys : List ℕ) (s r : ℕ) (zs ws : List ℕ) : Type 0 where
   pub front : xs ≡ ys
   pub mark : s ≡ r

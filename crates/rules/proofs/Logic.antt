@@ -22,7 +22,7 @@ and-right false b e = cc
 pub both : {a b : Bool} → a ≡ true → b ≡ true → a and b ≡ true
 both p q = rw (p, q)
 
--- in the other order, and the same twice
+-- in the other order, the same twice, and one beside true
 pub and-swap : (a b : Bool) → a and b ≡ b and a
 and-swap true true = refl
 and-swap true false = refl
@@ -32,6 +32,10 @@ and-swap false false = refl
 pub and-same : (a : Bool) → a ≡ a and a
 and-same true = refl
 and-same false = refl
+
+pub and-true : (b : Bool) → b and true ≡ b
+and-true true = refl
+and-true false = refl
 
 pub or-right : (a b : Bool) → b ≡ true → a or b ≡ true
 or-right true b e = refl
@@ -46,6 +50,18 @@ agree-same false false q = refl
 -- a test that passes and doesn't
 pub never {ℓ} : {A : Type ℓ} {b : Bool} → b ≡ true → b ≡ false → A
 never {b = b} p q = absurd (subst (λ (x : Bool). T x) (sym p ∙ q) tt)
+
+-- a test that cannot pass fails
+pub fails : (b : Bool) → (b ≡ true → ⊥) → b ≡ false
+fails true h = absurd (h refl)
+fails false h = refl
+
+-- two lists that are the same, taken apart
+pub first-of : {x y : ℕ} {xs ys : List ℕ} → x ∷ xs ≡ y ∷ ys → x ≡ y
+first-of q = cc
+
+pub rest-of : {x y : ℕ} {xs ys : List ℕ} → x ∷ xs ≡ y ∷ ys → xs ≡ ys
+rest-of q = cc
 
 -- two lists that the test finds the same are the same
 pub same-true : (xs ys : List ℕ) → same xs ys ≡ true → xs ≡ ys

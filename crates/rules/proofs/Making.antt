@@ -24,7 +24,7 @@ use Rattle.rules.proofs.Formed.{Formed}
 use Rattle.rules.proofs.Shaping.{length-at}
 use Rattle.rules.proofs.Rows.{row-length}
 use Rattle.rules.proofs.Entries.{Open, AllOpen, open-none, open-more, open-both, a-datum, a-nonce, a-list, a-ciphertext, Fits, parts-few, used-grows, word-grows, person-grows, open-grows, all-grow}
-use Rattle.rules.proofs.Forming.{create-count, create-grows, create-reads, create-formed, create-type, create-open, holder-grows, grant-formed, each-formed}
+use Rattle.rules.proofs.Forming.{create-leaves, create-formed, create-type, holder-grows, grant-formed, each-formed}
 
 -- entry e is used, of type y and length l
 pub record Has (t : Table) (e y l : ℕ) : Type 0 where
@@ -53,12 +53,12 @@ make-well : (t : Table) → Formed t → (x : Term) (l : ℕ) → Fits t x l →
 unfolding make
 make-well t f x l h more = record {
   formed = create-formed t f x l h more;
-  grows = create-grows t f x l h more;
-  count = create-count t f x l h more;
+  grows = create-leaves t f x l h more .grows;
+  count = create-leaves t f x l h more .one;
   has = record {
-    uses = create-open t f x l h more .uses;
+    uses = create-leaves t f x l h more .uses;
     type = create-type t f x l h more;
-    long = row-length (create t x l) (newEntry t) x l (create-reads t f x l h more) (parts-few t x (h .parts));
+    long = row-length (create t x l) (newEntry t) x l (create-leaves t f x l h more .reads) (parts-few t x (h .parts));
   };
 }
 

@@ -2,17 +2,17 @@
 -- participant made, on which message, and who got what by it. Assumes nothing.
 use Prim.Native.Nat.{ℕ}
 use native.Mathlib.Omega.{arith}
-use mathlib.Core.Path.{_≡_, ap}
+use mathlib.Core.Path.{_≡_}
 use mathlib.Core.Logic.{_≢_, _⊎_, inl}
 use mathlib.Core.Bool.{Bool, true}
 use mathlib.Core.List.{List, [], _∷_, List·Memᴰ}
-use lib.ListN.{getD}
 use Rattle.rules.specs.Table.{Table}
 use Rattle.rules.specs.Terms.{datum, nonce, list, ciphertext, secretKey, publicKeyOf}
 use Rattle.rules.specs.Handles.{entryOf}
 use Rattle.rules.specs.Outcome.{Outcome, gives, accepted, refused}
 use Rattle.rules.specs.Machine.{Request}
 use Rattle.rules.specs.Handshake.{termIn, Turn, turn, Carries, Starts, Answers, Replies, Accepts}
+use Rattle.rules.proofs.Logic.{first-of}
 use Rattle.rules.proofs.Grows.{Grows, grows-refl}
 use Rattle.rules.proofs.Holding.{Holds}
 
@@ -62,7 +62,7 @@ pub record Followed (H : ℕ → Bool) (t : Table) (r : Request) (o : Outcome) :
 
 -- an answer whose word isn't `accepted`
 pub not-accepted : {n : ℕ} {xs : List ℕ} → n ≢ 3 → (v u : ℕ) → n ∷ xs ≢ accepted v u
-not-accepted d v u q = d (ap (λ (l : List ℕ). getD l 0 0) q)
+not-accepted d v u q = d (first-of q)
 
 -- nothing but an answer
 pub answers-only : (H : ℕ → Bool) (t : Table) (r : Request) (n : ℕ) (xs : List ℕ) → n ≢ 3 → Followed H t r (gives (n ∷ xs) t)

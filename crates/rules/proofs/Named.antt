@@ -10,10 +10,10 @@ use Rattle.rules.specs.Choice.{if_then_else_}
 use Rattle.rules.specs.Table.{Table, most, used, capacity, nextHandle, handle}
 use Rattle.rules.specs.Handles.{holds, grant}
 use Rattle.rules.specs.SetUp.{grantNamed}
-use Rattle.rules.proofs.Granting.{none-holds, some-holds, holds-same, grant-handle, grant-handle-other}
+use Rattle.rules.proofs.Granting.{none-holds, some-holds, holds-same, grant-handle-other}
 use Rattle.rules.proofs.Shaped.{Used}
 use Rattle.rules.proofs.Grows.{Grows, grows-refl, grows-trans, grows-most, grant-grows, grant-used}
-use Rattle.rules.proofs.Sized.{Sized, sized-row, sized-head, sized-grows}
+use Rattle.rules.proofs.Sized.{Sized, sized-handle, sized-grows}
 use Rattle.rules.proofs.Margins.{Margins, margins-refl, margins-trans, grant-margins}
 use Rattle.rules.proofs.Counted.{Counted, counted-grant}
 
@@ -40,8 +40,7 @@ module _ (t : Table) (named : ℕ → Bool) (e : ℕ) (z : Sized t) (w : Used t 
     low = omega (arith, sized .room, uses .high)
 
     gets : handle (grant s k e) k e ≡ nextHandle s k
-    gets = grant-handle s k e (w .low) (omega (arith, grows-most (d .grows))) (sized-head sized) (sized-row sized e low)
-        (none-holds s k e (d .waiting k (omega arith)))
+    gets = sized-handle sized k e uses (omega (arith, grows-most (d .grows))) (none-holds s k e (d .waiting k (omega arith)))
 
     granted-holds : holds (grant s k e) k e ≡ true
     granted-holds = some-holds (grant s k e) k e (λ q. omega (arith, gets, d .counted k .next))

@@ -1,7 +1,7 @@
 -- A test in front of a command: where it passes the rest stands, where it fails there is a refusal on the table as it was. So what
 -- holds of every refusal, and of the rest where the tests pass, holds of the command. Assumes nothing.
 use Prim.Native.Nat.{ℕ, _+_, _-_, _≤_}
-use mathlib.Core.Path.{_≡_, refl}
+use mathlib.Core.Path.{_≡_, refl, sym, ap, _∙_}
 use mathlib.Core.Bool.{Bool, true, false}
 use mathlib.Core.List.{List, _++_}
 use lib.Dec.{leb}
@@ -15,6 +15,15 @@ use Rattle.rules.specs.Terms.{datumLength, findDatum}
 use Rattle.rules.specs.Outcome.{Outcome, gives, refused, need, isShort, needRoom}
 use Rattle.rules.specs.Steps.{unlessFound, sealedLengths, namedLengths}
 
+-- ---- outcomes that are the same, by their halves
+pub halves : {o o′ : Outcome} → o ≡ o′ → (o .answer ≡ o′ .answer) × (o .table ≡ o′ .table)
+halves q = (ap (λ (x : Outcome). x .answer) q, ap (λ (x : Outcome). x .table) q)
+
+-- an outcome that was met, by another name
+pub ends : {o o′ : Outcome} {a : List ℕ} {s : Table} → o′ ≡ o → (a ≡ o .answer) × (s ≡ o .table) → (a ≡ o′ .answer) × (s ≡ o′ .table)
+ends q p = (p .0 ∙ sym (halves q .0), p .1 ∙ sym (halves q .1))
+
+-- ---- a test
 pub by-need {ℓ} : (P : Outcome → Type ℓ) (b : Bool) (n : ℕ) (t : Table) (rest : Outcome) → (b ≡ true → P rest) → P (gives (refused n) t)
     → P (need b n t rest)
 unfolding need

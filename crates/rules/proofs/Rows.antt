@@ -1,16 +1,15 @@
 -- An entry whose seven numbers are those of a term, of no more than four arguments, reads as that term: the arguments stand first among
 -- the four, with zeros after them. Assumes nothing.
-use Prim.Native.Nat.{ℕ, _+_, _*_, _≤_, _<_}
+use Prim.Native.Nat.{ℕ, _≤_, _<_}
 use native.Mathlib.Omega.{arith}
 use mathlib.Core.Path.{_≡_, refl, ap, _∙_}
 use mathlib.Core.Bool.{true}
 use mathlib.Core.List.{List, [], _∷_, _++_}
 use lib.ListN.{length, getD, take, drop, replicate}
 use Rattle.rules.specs.Choice.{every, isZero}
-use Rattle.rules.specs.Table.{Table, size, rowWidth, word, typeAt, countAt, arguments, lengthAt}
-use Rattle.rules.specs.Terms.{Term, datum, nonce, list, ciphertext, secretKey, publicKey, blank, typeOf, argumentsOf, elements, termAt, numbersOf, newEntry, create}
+use Rattle.rules.specs.Table.{Table, word, typeAt, countAt, arguments, lengthAt}
+use Rattle.rules.specs.Terms.{Term, datum, nonce, list, ciphertext, secretKey, publicKey, blank, typeOf, argumentsOf, elements, termAt, numbersOf}
 use Rattle.rules.specs.WellFormed.{unusedAreZero}
-use Rattle.rules.proofs.Creating.{create-term, numbers-seven}
 
 -- ---- four numbers, xs and then zeros
 abbrev four : List ℕ → List ℕ
@@ -88,9 +87,3 @@ row-term t e (ciphertext k m) l r h = rw (r 0 (omega arith), r 2 (omega arith), 
 row-term t e (secretKey p) l r h = rw (r 0 (omega arith), r 2 (omega arith)) refl
 row-term t e (publicKey p) l r h = rw (r 0 (omega arith), r 2 (omega arith)) refl
 row-term t e blank l r h = rw (r 0 (omega arith)) refl
-
--- a new entry is the term that it was made of
-pub create-is : (t : Table) (x : Term) (l : ℕ) → length (argumentsOf x) ≤ 4 → rowWidth t * newEntry t + rowWidth t ≤ size t
-    → termAt (create t x l) (newEntry t) ≡ x
-unfolding create
-create-is t x l few row = row-term (create t x l) (newEntry t) x l (create-term t (numbersOf x l) (numbers-seven x l) row) few

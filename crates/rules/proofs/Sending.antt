@@ -17,13 +17,14 @@ use Rattle.rules.specs.Steps.{Made, make, makeUnless, unlessFound, seale
 use Rattle.rules.specs.Handshake.{termIn, Carries}
 use Rattle.rules.proofs.Logic.{each-none, each-cons, each-append}
 use Rattle.rules.proofs.Walks.{lowest-first}
-use Rattle.rules.proofs.Granting.{none-holds, grant-handle, grant-handle-other}
+use Rattle.rules.proofs.Granting.{none-holds, grant-handle-other}
 use Rattle.rules.proofs.Shaped.{Used, Person, Shaped}
 use Rattle.rules.proofs.Grows.{Grows, grows-refl, grows-trans, grows-most, term-out, grant-grows, grant-used}
 use Rattle.rules.proofs.Holding.{Holds, Untouched, untouched-trans, untouched-holds, grant-untouched, grant-holds, each-grows, each-used, each-untouched, each-holds}
+use Rattle.rules.proofs.Sized.{sized-shaped, sized-handle, sized-grows}
 use Rattle.rules.proofs.Reading.{Found, datum-found, list-found, found-later}
 use Rattle.rules.proofs.Needs.{named-count, alone-count}
-use Rattle.rules.proofs.Obtaining.{Creates, creates-stays, make-creates, creates-after, row-fits, make-entry, make-used, unless-creates, unless-used}
+use Rattle.rules.proofs.Obtaining.{Creates, creates-stays, make-creates, creates-after, make-entry, make-used, unless-creates, unless-used}
 
 -- a number that an entry may have
 abbrev pub Real : ℕ → Type 0
@@ -63,8 +64,8 @@ module _ (t : Table) (sh : Shaped t) (some : 1 ≤ used t) (s : Table) (g : Grow
     (silent : Untouched k t s) (e : ℕ) (new : used t < e) (uses : e ≤ used s) where
   new-handle : handle (grant s k e) k e ≡ nextHandle t k
   new-handle =
-      grant-handle s k e (omega arith) (omega (arith, grows-most g)) (omega (arith, row-fits sh g e (omega arith)))
-      (row-fits sh g e (omega arith)) (none-holds s k e (silent .fresh e new uses))
+      sized-handle (sized-grows g room (sized-shaped sh)) k e (record { low = omega arith; high = uses }) (omega (arith, grows-most g))
+      (none-holds s k e (silent .fresh e new uses))
       ∙ silent .counter
 
   next-some : 1 ≤ nextHandle t k

@@ -17,6 +17,7 @@ use Rattle.rules.specs.Machine.{Request, SetUp, Asks, step, setUp, perfo
 use Rattle.rules.specs.Session.{Reading, found, malformed, ended, Item, item, broken, readRecord, standsRight, itemsBy, itemsFrom, itemsOf, requestsIn, fileFits}
 use Rattle.rules.specs.Player.{ascii, wordOf, lineOf, linesFrom, cutLines, playersTable, answersTo, played}
 use Rattle.rules.specs.Open.{everything}
+use Rattle.rules.proofs.Logic.{first-of}
 use Rattle.rules.proofs.Keeps.{Kept, refuses, drops, does, kept-step, not-formed}
 use Rattle.rules.proofs.AfterSetUp.{set-up-head}
 use Rattle.rules.proofs.Lines.{numbered, line-parts, line-accepted, Worded, worded-none, worded-more, lines-cut}
@@ -94,7 +95,7 @@ pub record AcceptedBy (more : List Item) (t : Table) (first k v u : ℕ) : Type 
 
 -- an answer of another number prints another line
 not-accepted : (first k v u n : ℕ) (vs : List ℕ) → (n ≡ 3 → ⊥) → lineOf k (accepted v u) ≡ lineOf first (n ∷ vs) → ⊥
-not-accepted first k v u n vs h e = h (ap (λ (l : List ℕ). getD l 0 0) (line-accepted first k v u (n ∷ vs) (sym e) .1))
+not-accepted first k v u n vs h e = h (first-of (line-accepted first k v u (n ∷ vs) (sym e) .1))
 
 accepted-by : {more : List Item} (t : Table) (first k v u : ℕ) → Requests more
     → List·Memᴰ (lineOf k (accepted v u)) (numbered first (answersTo more t)) → AcceptedBy more t first k v u
@@ -130,7 +131,7 @@ module _ (t : Table) (bad : wellFormed t ≡ false) where
   none-accepted : {more : List Item} {first k v u : ℕ} → AcceptedBy more t first k v u → ⊥
   none-accepted a =
       let q = rw (stays-bad (a .before), not-formed (a .request) t bad) at (a .told) in
-      let z : _≡_ {A = ℕ} 7 3 = ap (λ (l : List ℕ). getD l 0 0) q in
+      let z : _≡_ {A = ℕ} 7 3 = first-of q in
       omega arith
 
 pub zeros-bad : wellFormed playersTable ≡ false
@@ -205,7 +206,7 @@ ready-answer n m c u = go (setUpFits playersTable n m c) refl
         → lineOf 1 ((if b then gives (ready (used s)) s else gives (refused 2) playersTable) .answer) ≡ lineOf 1 (ready u)
         → u ≡ 2 * n
     go true f e =
-        sym (ap (λ (l : List ℕ). getD l 0 0) (line-parts 1 1 1 1 (used s ∷ []) (u ∷ []) e .2)) ∙ set-up-head n m c playersTable f .3
+        sym (first-of (line-parts 1 1 1 1 (used s ∷ []) (u ∷ []) e .2)) ∙ set-up-head n m c playersTable f .3
     go false f e = let z : _≡_ {A = ℕ} 7 5 = ap length (line-parts 1 1 7 1 (2 ∷ []) (u ∷ []) e .1) in absurd (omega arith)
 
 module _ (n m c u : ℕ) where

@@ -14,7 +14,7 @@ use Rattle.rules.specs.Terms.{nonceType, listType, ciphertextType, secre
 use Rattle.rules.specs.Handles.{holds, held}
 use Rattle.rules.specs.SetUp.{participantsFit, maskFits, capacityFits, holdsSecretKey, holdsPublicKey}
 use Rattle.rules.specs.WellFormed.{headFits, heldAsNamed, isSecretKeyOf, isPublicKeyOf, keysFit, isLaterType, typeFits, countFits, unusedAreZero, nonceFits, isEarlier, mayBeElement, listFits, isKeyPlace, ciphertextFits, lengthFits, entryFits, mayHold, wellFormed}
-use Rattle.rules.proofs.Logic.{and-left, and-right, both, or-right, implies-use, agree-true, every-at}
+use Rattle.rules.proofs.Logic.{and-left, and-right, both, or-right, fails, implies-use, agree-true, every-at}
 use Rattle.rules.proofs.Walks.{count-le}
 use Rattle.rules.proofs.Words.{most-of}
 use Rattle.rules.proofs.Granting.{holds-some, holds-none, handle-out}
@@ -260,11 +260,7 @@ module _ (t : Table) (f : Formed t) where
         go (no l) = handle-out t k (secretKeyOf p) (omega arith)
 
     secret-open-at : holds t 0 (secretKeyOf p) ≡ true → honest t p ≡ false
-    secret-open-at h = go (honest t p) refl
-      where
-        go : (b : Bool) → honest t p ≡ b → b ≡ false
-        go true q = absurd (holds-some t 0 (secretKeyOf p) h (secret-held-at 0 q (λ z. omega (arith, w .low))))
-        go false q = refl
+    secret-open-at h = fails (honest t p) (λ q. holds-some t 0 (secretKeyOf p) h (secret-held-at 0 q (λ z. omega (arith, w .low))))
 
   pub shape : Shaped t
   shape =

@@ -1,27 +1,26 @@
 -- A new entry with its grants stands as it was written, held by just those that a test names, and every older entry stays as it is:
 -- creating and granting write no word of it. Assumes nothing.
-use Prim.Native.Nat.{ℕ, suc, _+_, _*_, _≤_, _<_}
+use Prim.Native.Nat.{ℕ, suc, _+_, _≤_}
 use native.Mathlib.Omega.{arith}
 use mathlib.Core.Path.{_≡_, refl, _∙_}
 use mathlib.Core.Bool.{Bool}
-use lib.ListN.{getD}
-use Rattle.rules.specs.Table.{Table, size, most, rowWidth, word, largest, capacity, used, handle}
-use Rattle.rules.specs.Terms.{Term, numbersOf, newEntry, create}
+use Rattle.rules.specs.Table.{Table, most, capacity, used, handle}
+use Rattle.rules.specs.Terms.{Term, newEntry, create}
 use Rattle.rules.specs.Handles.{holds}
 use Rattle.rules.specs.SetUp.{grantNamed}
 use Rattle.rules.proofs.Granting.{holds-same}
-use Rattle.rules.proofs.Creating.{numbers-seven, create-term}
+use Rattle.rules.proofs.Rows.{Reads}
 use Rattle.rules.proofs.Shaped.{Used}
-use Rattle.rules.proofs.Grows.{Grows, grows-refl, grows-trans, grows-most, add-used, add-grows}
-use Rattle.rules.proofs.Holding.{Untouched, add-untouched}
-use Rattle.rules.proofs.Sized.{Sized, sized-row, sized-head, sized-low, sized-new, sized-grows}
-use Rattle.rules.proofs.Margins.{Margins, margins-refl, margins-trans, add-margins}
+use Rattle.rules.proofs.Grows.{Grows, grows-refl, grows-trans, grows-most}
+use Rattle.rules.proofs.Sized.{Sized, sized-new, sized-grows}
+use Rattle.rules.proofs.Margins.{Margins, margins-refl, margins-trans}
+use Rattle.rules.proofs.Created.{Created, created}
 use Rattle.rules.proofs.Counted.{Counted, counted-untouched}
 use Rattle.rules.proofs.Named.{Given, named-given}
 
 -- entry e is the term x, of length l, and of the form's knowers just those hold it that the test names
 pub record Stands (t : Table) (e : ℕ) (x : Term) (l : ℕ) (named : ℕ → Bool) : Type 0 where
-  pub numbers : (i : ℕ) → i < 7 → word t e i ≡ getD (numbersOf x l) i 0
+  pub numbers : Reads t e x l
   pub holders : (k : ℕ) → k ≤ most t → holds t k e ≡ named k
 
 -- table s has all that t has, and the handles on it
@@ -57,52 +56,26 @@ pub record Added (t : Table) (x : Term) (l : ℕ) (named : ℕ → Bool) (s : Ta
   pub new : Stands s (used t + 1) x l named
 
 module _ (t : Table) (x : Term) (l : ℕ) (named : ℕ → Bool) (z : Sized t) (room : used t + 1 ≤ capacity t) (c : (k : ℕ) → Counted t k) where
-  low : used t < largest
-  low = omega (arith, sized-low z)
-
-  row : rowWidth t * newEntry t + rowWidth t ≤ size t
-  row = sized-row z (newEntry t) (omega (arith, sized-new z))
-
-  created-used : used (create t x l) ≡ used t + 1
-  unfolding create
-  created-used = add-used t (numbersOf x l) (numbers-seven x l) low (sized-head z) row
-
-  created-grows : Grows t (create t x l)
-  unfolding create
-  created-grows = add-grows t (numbersOf x l) (numbers-seven x l) low (sized-head z) row
-
-  created-untouched : (k : ℕ) → Untouched k t (create t x l)
-  unfolding create
-  created-untouched k = add-untouched t (numbersOf x l) (numbers-seven x l) low (sized-head z) row k
-
-  created-margins : Margins t (create t x l)
-  unfolding create
-  created-margins = add-margins t (numbersOf x l) (numbers-seven x l) z room
-
-  created-term : (i : ℕ) → i < 7 → word (create t x l) (newEntry t) i ≡ getD (numbersOf x l) i 0
-  unfolding create
-  created-term i h = create-term t (numbersOf x l) (numbers-seven x l) row i h
-
-  uses : Used (create t x l) (newEntry t)
-  uses = record { low = omega (arith, sized-new z); high = omega (arith, sized-new z, created-used) }
+  made : Created t x l
+  made = created t x l z (omega arith)
 
   given : Given (create t x l) named (newEntry t) (addNamed t x l named) (suc (most (create t x l)))
-  given = named-given (create t x l) named (newEntry t) (sized-grows created-grows (omega (arith, created-used)) z) uses
-      (λ k. counted-untouched created-grows (created-untouched k) (c k))
-      (λ k. created-untouched k .fresh (newEntry t) (omega (arith, sized-new z)) (uses .high))
+  given = named-given (create t x l) named (newEntry t) (sized-grows (made .grows) (omega (arith, made .one)) z) (made .uses)
+      (λ k. counted-untouched (made .grows) (made .untouched k) (c k))
+      (λ k. made .untouched k .fresh (newEntry t) (omega (arith, sized-new z)) (made .uses .high))
       (most (create t x l)) (omega arith)
 
   pub named-added : Added t x l named (addNamed t x l named)
   named-added = record {
     extends = record {
-      grows = grows-trans created-grows (given .grows);
-      margins = margins-trans created-grows created-margins (given .margins);
-      handles = λ k e w. given .elsewhere k e (w .low) (λ q. omega (arith, w .high, sized-new z)) ∙ created-untouched k .old e w;
+      grows = grows-trans (made .grows) (given .grows);
+      margins = margins-trans (made .grows) (made .margins) (given .margins);
+      handles = λ k e w. given .elsewhere k e (w .low) (λ q. omega (arith, w .high, sized-new z)) ∙ made .untouched k .old e w;
     };
-    one = given .same ∙ created-used;
+    one = given .same ∙ made .one;
     counted = given .counted;
     new = rw (← sized-new z) (record {
-      numbers = λ i h. given .grows .terms (newEntry t) i (uses .low) (uses .high) h ∙ created-term i h;
+      numbers = λ i h. given .grows .terms (newEntry t) i (made .uses .low) (made .uses .high) h ∙ made .reads i h;
       holders = λ k h. given .done k (omega (arith, grows-most (given .grows)));
     });
   }

@@ -8,7 +8,7 @@ use mathlib.Core.Bool.{Bool, true, false}
 use lib.Dec.{eqb}
 use borrow.Author.Tests.{eq-eqb, ne-eqb}
 use Rattle.rules.specs.Choice.{_and_, if_then_else_, all, count, lowest}
-use Rattle.rules.proofs.Logic.{and-left, and-right, both, never}
+use Rattle.rules.proofs.Logic.{and-left, and-right, both, never, fails}
 
 -- e is one of 1 to n + 1: one of 1 to n, or the last
 last-or {ℓ} : {A : Type ℓ} (n e : ℕ) → e ≤ suc n → (e ≤ n → A) → (e ≡ suc n → A) → A
@@ -36,11 +36,7 @@ module _ (f : ℕ → Bool) where
   all-from (suc n) h = both (all-from n (λ e a b. h e a (omega arith))) (h (suc n) (omega arith) (omega arith))
 
   pub all-fails : (n e : ℕ) → 1 ≤ e → e ≤ n → f e ≡ false → all f n ≡ false
-  all-fails n e a b q = go (all f n) refl
-    where
-      go : (x : Bool) → all f n ≡ x → x ≡ false
-      go true h = never (all-at n h e a b) q
-      go false h = refl
+  all-fails n e a b q = fails (all f n) (λ h. never (all-at n h e a b) q)
 
   -- ---- count
   pub count-next : (n : ℕ) → count f (n + 1) ≡ count f n + (if f (n + 1) then 1 else 0)

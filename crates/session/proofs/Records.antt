@@ -2,7 +2,7 @@
 use Prim.Native.Nat.{ℕ, zero, suc, _+_, _*_, _/_, _≤_, _<_}
 use native.Mathlib.Omega.{arith}
 use native.Mathlib.Numerals.{add-one}
-use native.Mathlib.Nat.{zero-add, add-zero, add-suc, suc-add}
+use native.Mathlib.Nat.{zero-add}
 use native.Mathlib.Decide.{ℕ-discrete}
 use mathlib.Core.Path.{_≡_, refl, sym, ap, _∙_}
 use mathlib.Core.Bool.{true, false}
@@ -14,6 +14,7 @@ use borrow.Author.Tests.{le-leb, lt-leb, ne-eqb}
 use Rattle.rules.specs.Machine.{Record, SetUp, Asks, Start, Deliver, Store, Nonce, MakeList, Project, Encrypt, Decrypt, Parse}
 use Rattle.rules.specs.Session.{Reading, found, malformed, ended, number, bodyLengths, isWithin, recordOf, bodyNumber, readBody, kindOf, valuesOf, twoBytes, bytesOf, bodyLength, recordBytes, hasRecord, writeRecord, refusal, bytes}
 use Rattle.rules.specs.Meaning.{besideAt, asked}
+use Rattle.rules.proofs.Stores.{sets-append}
 use Rattle.rules.proofs.RoundTrip.{body-found}
 use Rattle.rules.specs.declared.Handle.{Handle}
 use Rattle.rules.specs.declared.Command.{Command}
@@ -142,10 +143,6 @@ count-long (Decryptᶜ k c) hs e = refl
 count-long (Parseᶜ h) hs e = refl
 
 -- ---- bytes written one after another
-sets-append : (a : List ℕ) (i : ℕ) (xs ys : List ℕ) → sets (sets a i xs) (i + length xs) ys ≡ sets a i (xs ++ ys)
-sets-append a i [] ys = rw add-zero
-sets-append a i (x ∷ xs) ys = rw (add-suc, ← suc-add) (sets-append (set a i x) (suc i) xs ys)
-
 bytes-append : (xs ys : List ℕ) → bytesOf xs ++ bytesOf ys ≡ bytesOf (xs ++ ys)
 unfolding bytesOf twoBytes
 bytes-append [] ys = refl

@@ -1,26 +1,22 @@
 -- The stores that make an empty table: each knower's next handle, and the head on a run of zeros. Assumes nothing.
-use Prim.Native.Nat.{ℕ, zero, suc, _+_, _-_, _*_, _≤_}
-use native.Mathlib.Nat.{add-zero, sub-zero}
-use native.Mathlib.Numerals.{add-one}
+use Prim.Native.Nat.{ℕ, _+_, _-_, _*_, _≤_}
+use native.Mathlib.Nat.{sub-zero}
 use native.Mathlib.Omega.{arith}
-use mathlib.Core.Path.{_≡_, refl, sym, ap, _∙_}
-use mathlib.Core.List.{List, [], _∷_, _++_, append-assoc}
-use lib.ListN.{length, set, drop, replicate, replicate-append-replicate}
+use mathlib.Core.Path.{_≡_, refl, _∙_}
+use mathlib.Core.List.{[], _∷_, _++_, append-assoc}
+use lib.ListN.{length, drop, replicate, length-replicate, replicate-append-replicate}
 use lib.Seq.{sets}
 use borrow.Rule.Slice.PartMut.{midOf, putMid, post-is, mid-len}
 use Rattle.rules.specs.Table.{Table, size, thisVersion, mostOf, wordsFor, put}
 use Rattle.rules.specs.SetUp.{newHead, emptyTable}
+use Rattle.rules.proofs.Stores.{sets-append}
 use Rattle.rules.proofs.Words.{put-head}
 
--- one store more
-sets-more : (n v : ℕ) (l : List ℕ) (i : ℕ) → sets l i (replicate (suc n) v) ≡ set (sets l i (replicate n v)) (i + n) v
-sets-more zero v l i = ap (λ (j : ℕ). set l j v) (sym (add-zero i))
-sets-more (suc n) v l i =
-    sets-more n v (set l i v) (suc i) ∙ ap (λ (j : ℕ). set (sets l i (replicate (suc n) v)) j v) (omega arith)
-
+-- one handle more
 pub handle-more : (t s s′ : Table) (k : ℕ) → s ≡ sets t 5 (replicate k 1) → s′ ≡ put s 0 (5 + k) 1 → s′ ≡ sets t 5 (replicate (k + 1) 1)
 handle-more t s s′ k q h =
-    h ∙ put-head s (5 + k) 1 ∙ rw (q, add-one k) (sym (sets-more k 1 t 5))
+    h ∙ put-head s (5 + k) 1
+    ∙ rw (q, ← replicate-append-replicate {0} {A = ℕ} k 1 1) (rw length-replicate at (sets-append t 5 (replicate k 1) (1 ∷ [])))
 
 -- the first w words of a run, lent, cleared, and back
 pub cleared : (t last : Table) (w v : ℕ) → w ≡ v → v ≤ size t → last ≡ replicate (length (midOf 0 (w - 0) t)) 0

@@ -5,7 +5,7 @@ use mathlib.Core.Path.{_≡_, refl, sym, ap}
 use mathlib.Core.Bool.{Bool, true, false}
 use mathlib.Core.List.{List, [], _∷_}
 use lib.Dec.{eqb, leb}
-use lib.ListN.{length, getD}
+use lib.ListN.{length}
 use borrow.Author.Tests.{eq-eqb, ne-eqb, leb-true}
 use Rattle.rules.specs.Choice.{if_then_else_}
 use Rattle.rules.specs.Table.{Table, most, participants, typeAt, isParticipant}
@@ -17,7 +17,7 @@ use Rattle.rules.specs.declared.Entry.{Entry}
 use Rattle.messages.specs.declared.Message.{Message as Messageᶜ}
 use Rattle.messages.specs.declared.Message.the-variants.{First, Second, Third}
 use Rattle.messages.specs.Reading.{takenFor}
-use Rattle.rules.proofs.Logic.{and-left, and-right}
+use Rattle.rules.proofs.Logic.{and-left, and-right, first-of}
 use Rattle.rules.proofs.Words.{most-high}
 
 -- the key of whoever is acted towards has a small number
@@ -43,7 +43,7 @@ something-found e l h = go (eqb e 0) h
   where
     go : (b : Bool) → l ∷ [] ≡ (if b then [] else e ∷ []) → (e ≡ l) × (b ≡ false)
     go true q = absurd (omega (arith, ap length q))
-    go false q = (sym (ap (λ (x : List ℕ). getD x 0 0) q), refl)
+    go false q = (sym (first-of q), refl)
 
 -- ---- start
 pub start-not : (t : Table) (u v : ℕ) → mayAct t u v ≡ false → start t u v ≡ gives (refused 3) t

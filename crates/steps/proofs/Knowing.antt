@@ -1,8 +1,8 @@
 -- The array of what is known, read as the list of the entries that count: one more entry, and one more grant. Assumes nothing.
-use Prim.Native.Nat.{ℕ, zero, suc, _+_, _≤_, _<_}
+use Prim.Native.Nat.{ℕ, _+_, _≤_, _<_}
 use native.Mathlib.Numerals.{add-one}
 use native.Mathlib.Omega.{arith}
-use mathlib.Core.Path.{_≡_, refl, ap, _∙_}
+use mathlib.Core.Path.{_≡_, refl, _∙_}
 use mathlib.Core.List.{List, [], _∷_, _++_, append-assoc}
 use lib.ListN.{length, take, getD, set}
 use lib.Seq.{take-suc, take-suc-set, take-take}
@@ -10,23 +10,9 @@ use Rattle.rules.specs.Table.{Table}
 use Rattle.rules.specs.Handles.{grant, grantEach}
 use Rattle.rules.specs.declared.Entry.{Entry}
 use Rattle.terms.specs.Elements.{numbers}
+use Rattle.terms.proofs.Numbers.{numbers-length, number-at-or, numbers-set}
 use Rattle.steps.specs.declared.Known.{Known}
 use Rattle.steps.specs.Known.{knownIn, AtMost}
-
--- ---- the numbers of an array of entries
-numbers-length : (es : List Entry) → length (numbers es) ≡ length es
-numbers-length [] = refl
-numbers-length (e ∷ es) = ap suc (numbers-length es)
-
-numbers-set : (es : List Entry) (i : ℕ) (e : Entry) → numbers (set es i e) ≡ set (numbers es) i (e .0)
-numbers-set [] i e = refl
-numbers-set (x ∷ es) zero e = refl
-numbers-set (x ∷ es) (suc i) e = ap (λ (l : List ℕ). x .0 ∷ l) (numbers-set es i e)
-
-numbers-at : (es : List Entry) (i : ℕ) (d : Entry) → getD (numbers es) i (d .0) ≡ getD es i d .0
-numbers-at [] i d = refl
-numbers-at (x ∷ es) zero d = refl
-numbers-at (x ∷ es) (suc i) d = numbers-at es i d
 
 -- ---- one entry more
 pub known-more : (k : Known) (e : Entry) → AtMost 10 k
@@ -60,7 +46,7 @@ pub grants-more : (t : Table) (p : ℕ) (es : List Entry) (i : ℕ) (d : Entry) 
 unfolding grantEach
 grants-more t p es i d h =
     let l : i < length (numbers es) = rw (numbers-length es) h in
-    rw (add-one, take-suc (numbers es) i (d .0) l, numbers-at es i d) (grant-append t p (take i (numbers es)) (getD es i d .0 ∷ []))
+    rw (add-one, take-suc (numbers es) i (d .0) l, number-at-or es i d) (grant-append t p (take i (numbers es)) (getD es i d .0 ∷ []))
 
 -- ---- the first three elements of a list of three or more
 pub first-three : (n a b c d : ℕ) → 3 ≤ n → take 3 (take n (a ∷ b ∷ c ∷ d ∷ [])) ≡ a ∷ b ∷ c ∷ []

@@ -8,7 +8,7 @@ use mathlib.Core.List.{List, [], _∷_, _++_}
 use lib.Dec.{leb}
 use lib.ListN.{length}
 use borrow.Author.Tests.{le-leb, lt-leb, eq-eqb, ne-eqb, leb-true}
-use Rattle.rules.specs.Choice.{_and_, every}
+use Rattle.rules.specs.Choice.{every}
 use Rattle.rules.specs.Table.{Table, used, capacity, lengthAt, handle}
 use Rattle.rules.specs.Terms.{Term, datum, list, typeOf, argumentsOf, longest, datumLength, nonceLength, listLength, ciphertextLength, publicKeyOf, numbersOf, newEntry, addEntry, create, findDatum, findList}
 use Rattle.rules.specs.Handles.{grant, grantEach}
@@ -19,18 +19,6 @@ use Rattle.rules.proofs.Logic.{and-left, and-right}
 use Rattle.rules.proofs.Needs.{unless-none, unless-some, named-count, alone-count}
 use Rattle.rows.specs.Row.{seven}
 use Rattle.steps.specs.Sending.{madeAt, addUnless, refusalFor}
-
--- the two halves of an outcome
-pub halves : {o o′ : Outcome} → o ≡ o′ → (o .answer ≡ o′ .answer) × (o .table ≡ o′ .table)
-halves q = (ap (λ (x : Outcome). x .answer) q, ap (λ (x : Outcome). x .table) q)
-
--- an outcome that was met, by another name
-pub carried : {a : List ℕ} {t : Table} {o o′ : Outcome} → (a ≡ o .answer) × (t ≡ o .table) → o ≡ o′ → (a ≡ o′ .answer) × (t ≡ o′ .table)
-carried p q = (p .0 ∙ halves q .0, p .1 ∙ halves q .1)
-
-pub and-true : (b : Bool) → b ≡ b and true
-and-true true = refl
-and-true false = refl
 
 -- ---- room
 refused-some : (t : Table) (rest : Outcome) (a b : Bool) (n : ℕ) → n ≡ refusalFor a b → (n ≡ 0 → ⊥)

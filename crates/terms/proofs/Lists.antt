@@ -4,31 +4,18 @@ use native.Mathlib.Omega.{arith}
 use native.Mathlib.Decide.{decLt}
 use mathlib.Core.Path.{_≡_, refl, sym, ap, _∙_}
 use mathlib.Core.Logic.{_≢_}
-use mathlib.Core.Bool.{Bool, true, false}
-use mathlib.Core.List.{List, [], _∷_}
+use mathlib.Core.Bool.{true, false}
+use mathlib.Core.List.{List}
 use lib.ListN.{length, getD, take, length-take}
 use lib.Seq.{ext-getD, getD-take}
 use borrow.Author.Tests.{eqb-true, eq-eqb, ne-eqb, lt-ltb, le-ltb}
 use Rattle.rules.specs.Table.{Table, word, typeAt, countAt, arguments}
 use Rattle.rules.specs.Terms.{listType, isList, elements, isListOf}
 use Rattle.rules.specs.declared.Entry.{Entry}
-use Rattle.rules.proofs.Logic.{and-left, and-right, both, same-true, same-refl}
+use Rattle.rules.proofs.Logic.{and-left, and-right, both, fails, same-true, same-refl}
 use Rattle.rows.specs.Search.{hasBoth}
 use Rattle.terms.specs.Elements.{numbers, surePlace, sureNumber}
-
--- ---- the entries that are handed over
--- the number of entry i of them
-abbrev pub numberAt : List Entry → ℕ → ℕ
-numberAt es i = getD es i (record { 0 = 0 }) .0
-
-numbers-length : (es : List Entry) → length (numbers es) ≡ length es
-numbers-length [] = refl
-numbers-length (e ∷ es) = ap suc (numbers-length es)
-
-number-at : (es : List Entry) (i : ℕ) → getD (numbers es) i 0 ≡ numberAt es i
-number-at [] i = refl
-number-at (e ∷ es) zero = refl
-number-at (e ∷ es) (suc i) = number-at es i
+use Rattle.terms.proofs.Numbers.{numberAt, numbers-length, number-at}
 
 -- ---- an entry and the list that is sought
 module _ (t : Table) (e : ℕ) where
@@ -61,11 +48,7 @@ module _ (t : Table) (e : ℕ) where
 
   other-elements : (xs : List ℕ) → elements t e ≢ xs → isListOf t xs e ≡ false
   unfolding isListOf
-  other-elements xs h = go (isListOf t xs e) refl
-    where
-      go : (b : Bool) → isListOf t xs e ≡ b → b ≡ false
-      go true q = absurd (h (same-true _ _ (and-right (isList t e) _ q)))
-      go false q = refl
+  other-elements xs h = fails _ (λ q. h (same-true _ _ (and-right (isList t e) _ q)))
 
   -- the first n of four entries: w of them are wanted, and the entry has m
   module _ (n : ℕ) (es : List Entry) (four : length es ≡ 4) (c m w : ℕ) (counted : c ≡ countAt t e) (few : m ≡ min c 4) (wanted : w ≡ min n 4) where

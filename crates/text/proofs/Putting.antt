@@ -1,7 +1,7 @@
 -- A bounded append composes, keeps the output's length, and leaves no choice; the next place says whether the bytes fit. So a number and a
 -- line are written by their parts. Assumes nothing.
 use Prim.Native.Nat.{ℕ, suc, _+_, _/_, _%_, _≤_, _<_, min}
-use native.Mathlib.Nat.{zero-add, add-zero, add-suc, suc-add}
+use native.Mathlib.Nat.{zero-add}
 use native.Mathlib.Numerals.{add-one}
 use native.Mathlib.Decide.{decLe}
 use native.Mathlib.Omega.{arith}
@@ -10,14 +10,11 @@ use mathlib.Core.List.{List, [], _∷_, _++_, append-assoc}
 use lib.ListN.{length, take, drop, getD, set, length-append}
 use lib.Seq.{sets, take-suc, set-out, length-sets, sets-eq}
 use Rattle.rules.specs.Player.{digit, decimal, wordOf, spaced, lineOf}
+use Rattle.rules.proofs.Stores.{sets-append}
 use Rattle.rules.proofs.Decimal.{decimal-small, decimal-more}
 use Rattle.text.specs.Put.{Put}
 
 -- ---- runs of stores
-sets-append : (a : List ℕ) (i : ℕ) (xs ys : List ℕ) → sets (sets a i xs) (i + length xs) ys ≡ sets a i (xs ++ ys)
-sets-append a i [] ys = rw add-zero
-sets-append a i (x ∷ xs) ys = rw (add-suc, ← suc-add) (sets-append (set a i x) (suc i) xs ys)
-
 sets-past : (a : List ℕ) (i : ℕ) (ys : List ℕ) → length a ≤ i → sets a i ys ≡ a
 sets-past a i [] h = refl
 sets-past a i (y ∷ ys) h = rw (set-out a i y h) (sets-past a (suc i) ys (omega arith))

@@ -1,7 +1,8 @@
 -- `commands::decrypt` meets its contract: both handles are looked up before either entry is read. Assumes nothing.
 use mathlib.Core.Path.{refl}
 use Rattle.rules.specs.Meaning.{said}
-use Rattle.commands.proofs.Ways.{ends, held, held-at, unheld}
+use Rattle.rules.proofs.Needs.{ends}
+use Rattle.commands.proofs.Ways.{held, held-at, unheld}
 use Rattle.commands.proofs.Sealing.{decrypt-unheld, decrypt-held}
 use borrow.Author.Needs.{needs}
 use Rattle.commands.proofs.decrypt.Statement.{statement}

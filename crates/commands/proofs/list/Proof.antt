@@ -4,8 +4,8 @@ use mathlib.Core.Path.{refl, sym, _∙_}
 use borrow.Author.Tests.{not-true, not-false}
 use Rattle.rules.specs.Handles.{entryOf}
 use Rattle.rules.specs.Meaning.{said}
+use Rattle.rules.proofs.Needs.{ends}
 use Rattle.beside.proofs.Asked.{asked-fits}
-use Rattle.commands.proofs.Ways.{ends}
 use Rattle.commands.proofs.Arrays.{padded-take, padded-again}
 use Rattle.commands.proofs.Listing.{unasked-list, unheld-list, held-list}
 use borrow.Author.Needs.{needs}

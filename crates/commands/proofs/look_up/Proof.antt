@@ -9,9 +9,10 @@ use Rattle.rules.specs.Choice.{every}
 use Rattle.rules.specs.Handles.{entryOf, holdsHandle}
 use Rattle.rules.proofs.Logic.{never}
 use Rattle.terms.specs.Elements.{numbers}
+use Rattle.terms.proofs.Numbers.{numbers-set}
 use Rattle.beside.specs.Beside.{numbersBeside}
 use Rattle.beside.proofs.Asked.{number-beside}
-use Rattle.commands.proofs.Arrays.{entries-set, every-none, every-next, every-fails, through, through-next, through-all}
+use Rattle.commands.proofs.Arrays.{every-none, every-next, every-fails, through, through-next, through-all}
 use Rattle.commands.proofs.Ways.{held, held-at, unheld}
 use borrow.Author.Needs.{needs}
 use Rattle.commands.proofs.look_up.Statement.{statement}
@@ -79,7 +80,7 @@ loop-again c =
     let q = c .before .e .given .1 in
     let at = number-beside hs (l .loop .i) (omega arith) in (
       omega arith,
-      entries-set (l .loop .entries) (l .loop .i) _ ∙ rw (l .loop .inv .1, ← held-at _ _ _ p _ q, ← at) (through-next (entryOf _ 0) (l .loop .i) (numbersBeside hs)),
+      numbers-set (l .loop .entries) (l .loop .i) _ ∙ rw (l .loop .inv .1, ← held-at _ _ _ p _ q, ← at) (through-next (entryOf _ 0) (l .loop .i) (numbersBeside hs)),
       every-next (holdsHandle _ 0) (l .loop .i) (numbersBeside hs) (l .loop .inv .2) (ap (holdsHandle _ 0) at ∙ held _ _ _ p _ q),
     )
 

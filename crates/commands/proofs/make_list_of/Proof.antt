@@ -2,8 +2,9 @@
 use mathlib.Core.Path.{refl, sym, _∙_}
 use borrow.Author.Tests.{not-true, not-false}
 use Rattle.rules.specs.Meaning.{said}
+use Rattle.rules.proofs.Needs.{ends}
 use Rattle.rows.proofs.Search.{found, nothing}
-use Rattle.commands.proofs.Ways.{ends, gives-found, gives-unfound}
+use Rattle.commands.proofs.Ways.{gives-found, gives-unfound}
 use Rattle.commands.proofs.Listing.{secret-listed, none-secret, new-list}
 use borrow.Author.Needs.{needs}
 use Rattle.commands.proofs.make_list_of.Statement.{statement}

@@ -8,7 +8,8 @@ use lib.ListN.{length, take}
 use Rattle.rules.specs.Choice.{every}
 use Rattle.rules.specs.Commands.{mayBeListed}
 use Rattle.terms.specs.Elements.{numbers}
-use Rattle.commands.proofs.Arrays.{entries-length, entry-at, every-none, every-next, every-fails}
+use Rattle.terms.proofs.Numbers.{numbers-length, number-at}
+use Rattle.commands.proofs.Arrays.{every-none, every-next, every-fails}
 use Rattle.commands.proofs.Listing.{secret, no-secret}
 use borrow.Author.Needs.{needs}
 use Rattle.commands.proofs.may_be_listed.Statement.{statement}
@@ -40,10 +41,10 @@ returns c =
     let l = c .before .before .before .before in
     let a = l .before .before in
     let es = a .args .t3 in
-    let four : length (numbers es) ≡ 4 = entries-length es ∙ a .good .1 .1 .0 .1 .0 .1 in
+    let four : length (numbers es) ≡ 4 = numbers-length es ∙ a .good .1 .1 .0 .1 .0 .1 in
     sym
     (every-fails (mayBeListed _) (a .args .count) (l .loop .i) (numbers es) (omega arith) (omega arith)
-    (ap (mayBeListed _) (entry-at es (l .loop .i)) ∙ secret _ _ _ (c .before .kind .ensures) (c .if1 .taken)))
+    (ap (mayBeListed _) (number-at es (l .loop .i)) ∙ secret _ _ _ (c .before .kind .ensures) (c .if1 .taken)))
 
 add-i : tie.Need-add-i Inv-loop μ-loop
 add-i c = search needs
@@ -57,7 +58,7 @@ loop-again c =
     let es = l .before .before .args .t3 in (
       omega arith,
       every-next (mayBeListed _) (l .loop .i) (numbers es) (l .loop .inv .1)
-          (ap (mayBeListed _) (entry-at es (l .loop .i)) ∙ no-secret _ _ _ (c .before .kind .ensures) (c .if1 .left)),
+          (ap (mayBeListed _) (number-at es (l .loop .i)) ∙ no-secret _ _ _ (c .before .kind .ensures) (c .if1 .left)),
     )
 
 returns-2 : tie.Need-returns-2 Inv-loop μ-loop

@@ -1,6 +1,6 @@
 -- `commands::nonce` meets its contract: its numbers are those of a nonce of no participant. Assumes nothing.
 use Rattle.rules.specs.Commands.{newNonce}
-use Rattle.commands.proofs.Ways.{ends}
+use Rattle.rules.proofs.Needs.{ends}
 use Rattle.commands.proofs.Making.{new-nonce}
 use borrow.Author.Needs.{needs}
 use Rattle.commands.proofs.nonce.Statement.{statement}

@@ -2,7 +2,8 @@
 use mathlib.Core.Path.{refl, sym, _∙_}
 use borrow.Author.Tests.{not-true, not-false}
 use Rattle.rules.specs.Meaning.{said}
-use Rattle.commands.proofs.Ways.{ends, held, held-at, unheld}
+use Rattle.rules.proofs.Needs.{ends}
+use Rattle.commands.proofs.Ways.{held, held-at, unheld}
 use Rattle.commands.proofs.Projecting.{no-place, place-unheld, place-held, place-small}
 use borrow.Author.Needs.{needs}
 use Rattle.commands.proofs.project.Statement.{statement}

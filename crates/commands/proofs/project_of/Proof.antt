@@ -1,7 +1,7 @@
 -- `commands::project_of` meets its contract: each way out is the rule's. Assumes nothing.
 use mathlib.Core.Path.{refl}
 use Rattle.rules.specs.Meaning.{said}
-use Rattle.commands.proofs.Ways.{ends}
+use Rattle.rules.proofs.Needs.{ends}
 use Rattle.commands.proofs.Projecting.{of-no-list, past-end, element}
 use borrow.Author.Needs.{needs}
 use Rattle.commands.proofs.project_of.Statement.{statement}

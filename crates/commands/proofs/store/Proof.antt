@@ -1,8 +1,9 @@
 -- `commands::store` meets its contract: the entry that is found is given, and a new one where none is. Assumes nothing.
 use mathlib.Core.Path.{_∙_}
 use Rattle.rules.specs.Commands.{store}
+use Rattle.rules.proofs.Needs.{ends}
 use Rattle.rows.proofs.Search.{found, nothing}
-use Rattle.commands.proofs.Ways.{ends, gives-found, gives-unfound}
+use Rattle.commands.proofs.Ways.{gives-found, gives-unfound}
 use Rattle.commands.proofs.Making.{new-datum}
 use borrow.Author.Needs.{needs}
 use Rattle.commands.proofs.store.Statement.{statement}

@@ -7,7 +7,8 @@ use lib.ListN.{length, take}
 use Rattle.rules.specs.Choice.{sumOf}
 use Rattle.rules.specs.Table.{lengthAt}
 use Rattle.terms.specs.Elements.{numbers}
-use Rattle.commands.proofs.Arrays.{entries-length, entry-at, sum-none, sum-next}
+use Rattle.terms.proofs.Numbers.{numbers-length, number-at}
+use Rattle.commands.proofs.Arrays.{sum-none, sum-next}
 use borrow.Author.Needs.{needs}
 use Rattle.commands.proofs.sum_of_lengths.Statement.{statement}
 use Rattle.commands.proofs.sum_of_lengths.Tie as tie
@@ -50,9 +51,9 @@ loop-again c =
     let l = c .before .before .before in
     let a = l .before .before in
     let es = a .args .t3 in
-    let four : length (numbers es) ≡ 4 = entries-length es ∙ a .good .1 .1 .0 .1 .0 .1 in
+    let four : length (numbers es) ≡ 4 = numbers-length es ∙ a .good .1 .1 .0 .1 .0 .1 in
     let next = sum-next (lengthAt (a .args .t .now)) (l .loop .i) (numbers es) (omega arith) in
-    let last = c .length .ensures ∙ ap (lengthAt (a .args .t .now)) (sym (entry-at es (l .loop .i))) in
+    let last = c .length .ensures ∙ ap (lengthAt (a .args .t .now)) (sym (number-at es (l .loop .i))) in
     (omega arith, omega arith, rw (next, l .loop .inv .2, last) refl)
 
 returns : tie.Need-returns Inv-loop μ-loop

@@ -1,8 +1,8 @@
 -- `entries_fit::elements_fit` meets its contract: the four arguments are tested in order. Assumes nothing.
 use mathlib.Core.Path.{sym, _∙_}
 use borrow.Author.Needs.{needs}
-use Rattle.rules.proofs.Logic.{and-stops, and-goes}
-use Rattle.entries_fit.proofs.Elements.{and-true, elements-are}
+use Rattle.rules.proofs.Logic.{and-true, and-stops, and-goes}
+use Rattle.entries_fit.proofs.Elements.{elements-are}
 use Rattle.entries_fit.proofs.elements_fit.Statement.{statement}
 use Rattle.entries_fit.proofs.elements_fit.Tie as tie
 

@@ -1,8 +1,8 @@
 -- `entries_fit::unused_are_zero` meets its contract: the four arguments are tested in order. Assumes nothing.
 use mathlib.Core.Path.{sym, _∙_}
 use borrow.Author.Needs.{needs}
-use Rattle.rules.proofs.Logic.{and-stops, and-goes}
-use Rattle.entries_fit.proofs.Elements.{and-true, unused-are}
+use Rattle.rules.proofs.Logic.{and-true, and-stops, and-goes}
+use Rattle.entries_fit.proofs.Elements.{unused-are}
 use Rattle.entries_fit.proofs.unused_are_zero.Statement.{statement}
 use Rattle.entries_fit.proofs.unused_are_zero.Tie as tie
 

@@ -1,9 +1,8 @@
 -- `formed::handles_fit` meets its contract: the tests are the rule's, and the handles are known to be below. Assumes nothing.
 use mathlib.Core.Path.{sym}
 use Rattle.rules.specs.WellFormed.{handlesFit}
-use Rattle.rules.proofs.Logic.{and-stops, and-goes}
+use Rattle.rules.proofs.Logic.{and-true, and-stops, and-goes}
 use borrow.Author.Needs.{needs}
-use Rattle.entries_fit.proofs.Elements.{and-true}
 use Rattle.formed.proofs.handles_fit.Statement.{statement}
 use Rattle.formed.proofs.handles_fit.Tie as tie
 

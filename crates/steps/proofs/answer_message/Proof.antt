@@ -1,6 +1,7 @@
 -- `steps::answer_message` meets its contract: each message is answered as the rule says. Assumes nothing.
+use mathlib.Core.Path.{sym}
 use Rattle.rules.specs.Meaning.{said, foundAt}
-use Rattle.steps.proofs.Sends.{halves, carried}
+use Rattle.rules.proofs.Needs.{halves, ends}
 use Rattle.steps.proofs.Delivers.{answers-first, answers-second, answers-third}
 use borrow.Author.Needs.{needs}
 use Rattle.steps.proofs.answer_message.Statement.{statement}
@@ -35,7 +36,7 @@ unfolding foundAt
 returns c =
     let s = c .before .before in
     let m = s .before .before .before in
-    carried (s .send-named .ensures) (answers-first _ _ _ _ _ (m .before .before .known-from .ensures .1) _ _ (m .message .given .1))
+    ends (sym (answers-first _ _ _ _ _ (m .before .before .known-from .ensures .1) _ _ (m .message .given .1))) (s .send-named .ensures)
 
 same-length-2 : tie.Need-same-length-2
 same-length-2 c = search needs
@@ -44,7 +45,7 @@ returns-2 : tie.Need-returns-2
 returns-2 c =
     let s = c .before .before in
     let m = s .before .before .before in
-    carried (s .answer-second .ensures) (answers-second _ _ _ _ _ (m .before .before .known-from .ensures .1) _ _ (m .message2 .given .1))
+    ends (sym (answers-second _ _ _ _ _ (m .before .before .known-from .ensures .1) _ _ (m .message2 .given .1))) (s .answer-second .ensures)
 
 same-length-3 : tie.Need-same-length-3
 same-length-3 c = search needs

@@ -2,7 +2,8 @@
 use native.Mathlib.Omega.{arith}
 use mathlib.Core.Path.{sym}
 use Rattle.rules.specs.Meaning.{said}
-use Rattle.steps.proofs.Sends.{halves, carried, sealed-low, alone-length, second-not, second-goes}
+use Rattle.rules.proofs.Needs.{halves, ends}
+use Rattle.steps.proofs.Sends.{sealed-low, alone-length, second-not, second-goes}
 use borrow.Author.Needs.{needs}
 use Rattle.steps.proofs.answer_second.Statement.{statement}
 use Rattle.steps.proofs.answer_second.Tie as tie
@@ -61,7 +62,7 @@ returns-2 c =
     let f = d .before .before in
     let n = f .before .before .before .before in
     let len = alone-length _ _ _ (n .before .before .length .ensures) in
-    carried (s .send .ensures) (second-goes _ _ _ _ _ _ _ _ _ len (n .find-list .ensures) (f .before .before .missing .ensures) (f .before .refusal .ensures) _ _ (f .if1 .left) (d .create-unless .ensures .1) (d .create-unless .ensures .0))
+    ends (sym (second-goes _ _ _ _ _ _ _ _ _ len (n .find-list .ensures) (f .before .before .missing .ensures) (f .before .refusal .ensures) _ _ (f .if1 .left) (d .create-unless .ensures .1) (d .create-unless .ensures .0))) (s .send .ensures)
 
 pub answer-second-spec : {M : Type 1} → statement M
 answer-second-spec =

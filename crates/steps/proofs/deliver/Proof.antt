@@ -3,7 +3,7 @@
 use mathlib.Core.Path.{sym, ap, _∙_}
 use borrow.Author.Tests.{not-true, not-false}
 use Rattle.rules.specs.Meaning.{said, foundAt}
-use Rattle.steps.proofs.Sends.{halves, carried}
+use Rattle.rules.proofs.Needs.{halves, ends}
 use Rattle.steps.proofs.Delivers.{peer-low, deliver-not, deliver-unheld, deliver-held}
 use borrow.Author.Needs.{needs}
 use Rattle.steps.proofs.deliver.Statement.{statement}
@@ -55,7 +55,7 @@ returns-3 c =
     let b = l .before .before .before .before in
     let may = sym (b .before .may-act .ensures) ∙ not-false _ (b .if1 .left) in
     let held = sym (ap foundAt (l .l .given .1)) ∙ l .before .before .entry-of .ensures in
-    carried (s .deliver-list .ensures) (deliver-held _ _ _ _ _ may held)
+    ends (sym (deliver-held _ _ _ _ _ may held)) (s .deliver-list .ensures)
 
 pub deliver-spec : {M : Type 1} → statement M
 deliver-spec =

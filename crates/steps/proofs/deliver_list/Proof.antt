@@ -2,8 +2,8 @@
 -- Assumes nothing.
 use mathlib.Core.Path.{sym, _∙_}
 use Rattle.rules.specs.Meaning.{said}
+use Rattle.rules.proofs.Needs.{halves, ends}
 use Rattle.messages.proofs.Read.{reads-none, reads-taken}
-use Rattle.steps.proofs.Sends.{halves, carried}
 use Rattle.steps.proofs.Delivers.{list-not, list-none, list-read}
 use borrow.Author.Needs.{needs}
 use Rattle.steps.proofs.deliver_list.Statement.{statement}
@@ -52,7 +52,7 @@ returns-3 c =
     let b = m .before .before .before .before in
     let listed = sym (b .before .kind .ensures) ∙ b .if1 .left in
     let taken = sym (m .before .before .read-message .ensures) ∙ reads-taken _ _ (m .message .given .1) in
-    carried (s .answer-message .ensures) (list-read _ _ _ _ _ listed taken)
+    ends (sym (list-read _ _ _ _ _ listed taken)) (s .answer-message .ensures)
 
 pub deliver-list-spec : {M : Type 1} → statement M
 deliver-list-spec =

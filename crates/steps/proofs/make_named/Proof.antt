@@ -1,7 +1,9 @@
 -- `steps::make_named` meets its contract: it goes the rule's way, entry by entry. Assumes nothing.
 use native.Mathlib.Omega.{arith}
+use mathlib.Core.Path.{sym}
+use Rattle.rules.proofs.Needs.{ends}
 use Rattle.steps.proofs.Knowing.{known-two}
-use Rattle.steps.proofs.Sends.{carried, named-goes}
+use Rattle.steps.proofs.Sends.{named-goes}
 use borrow.Author.Needs.{needs}
 use Rattle.steps.proofs.make_named.Statement.{statement}
 use Rattle.steps.proofs.make_named.Tie as tie
@@ -38,7 +40,7 @@ returns c =
     let e = d .before .before .before .before in
     let pre = e .before .before .before .pre in
     let row = known-two _ _ _ _ _ (k .and-then .ensures .1) (s .before .and-then2 .ensures .1) in
-    carried (s .send .ensures) (named-goes _ _ _ _ _ _ _ _ _ _ _ _ _ _ (pre .4) (pre .3) (e .create .ensures .1) (e .create .ensures .0) (d .create-unless .ensures .1) (d .create-unless .ensures .0) (m .create-named .ensures .1) (m .create-named .ensures .0) row)
+    ends (sym (named-goes _ _ _ _ _ _ _ _ _ _ _ _ _ _ (pre .4) (pre .3) (e .create .ensures .1) (e .create .ensures .0) (d .create-unless .ensures .1) (d .create-unless .ensures .0) (m .create-named .ensures .1) (m .create-named .ensures .0) row)) (s .send .ensures)
 
 pub make-named-spec : {M : Type 1} → statement M
 make-named-spec =

@@ -1,12 +1,12 @@
 -- `steps::sealed_is_short` meets its contract: the three tests are the rule's. Assumes nothing.
 use Prim.Native.Nat.{_+_}
-use mathlib.Core.Path.{refl}
+use mathlib.Core.Path.{refl, sym}
 use borrow.Author.Tests.{le-leb, lt-leb}
 use Rattle.rules.specs.Choice.{every}
 use Rattle.rules.specs.Terms.{longest, listLength, ciphertextLength}
 use Rattle.rules.specs.Outcome.{isShort}
 use Rattle.rules.specs.Steps.{sealedLengths}
-use Rattle.steps.proofs.Sends.{and-true}
+use Rattle.rules.proofs.Logic.{and-true}
 use borrow.Author.Needs.{needs}
 use Rattle.steps.proofs.sealed_is_short.Statement.{statement}
 use Rattle.steps.proofs.sealed_is_short.Tie as tie
@@ -34,7 +34,7 @@ returns-3 : tie.Need-returns-3
 unfolding every isShort sealedLengths ciphertextLength listLength longest
 returns-3 c =
     let l = c .before .before .args .len in
-    rw (le-leb l 4095 (c .before .if1 .left), le-leb (l + 16) 4095 (c .if2 .left)) (and-true _)
+    rw (le-leb l 4095 (c .before .if1 .left), le-leb (l + 16) 4095 (c .if2 .left)) (sym (and-true _))
 
 pub sealed-is-short-spec : {M : Type 1} → statement M
 sealed-is-short-spec =

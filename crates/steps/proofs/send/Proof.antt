@@ -1,8 +1,9 @@
 -- `steps::send` meets its contract: it goes the rule's way, entry by entry and grant by grant. Assumes nothing.
 use native.Mathlib.Omega.{arith}
 use Rattle.rules.specs.Meaning.{said}
+use Rattle.rules.proofs.Needs.{halves}
 use Rattle.steps.proofs.Knowing.{known-three}
-use Rattle.steps.proofs.Sends.{halves, send-goes}
+use Rattle.steps.proofs.Sends.{send-goes}
 use borrow.Author.Needs.{needs}
 use Rattle.steps.proofs.send.Statement.{statement}
 use Rattle.steps.proofs.send.Tie as tie

@@ -2,7 +2,8 @@
 use native.Mathlib.Omega.{arith}
 use mathlib.Core.Path.{sym}
 use Rattle.rules.specs.Meaning.{said}
-use Rattle.steps.proofs.Sends.{halves, carried, sealed-low, named-not, named-there}
+use Rattle.rules.proofs.Needs.{halves, ends}
+use Rattle.steps.proofs.Sends.{sealed-low, named-not, named-there}
 use borrow.Author.Needs.{needs}
 use Rattle.steps.proofs.send_named.Statement.{statement}
 use Rattle.steps.proofs.send_named.Tie as tie
@@ -48,7 +49,7 @@ returns-2 : tie.Need-returns-2
 returns-2 c =
     let f = c .before .before .before .before in
     let n = f .before .before .before .before in
-    carried (c .before .before .make-named .ensures) (sym (named-there _ _ _ _ _ _ _ _ (n .before .before .named-length .ensures) (n .find-datum .ensures) (f .before .before .missing .ensures) (f .before .refusal .ensures) (f .if1 .left)))
+    ends (named-there _ _ _ _ _ _ _ _ (n .before .before .named-length .ensures) (n .find-datum .ensures) (f .before .before .missing .ensures) (f .before .refusal .ensures) (f .if1 .left)) (c .before .before .make-named .ensures)
 
 pub send-named-spec : {M : Type 1} → statement M
 send-named-spec =

@@ -2,7 +2,7 @@
 use native.Mathlib.Omega.{arith}
 use mathlib.Core.Path.{sym, _∙_}
 use Rattle.rules.specs.Meaning.{said, foundAt}
-use Rattle.steps.proofs.Sends.{halves, carried}
+use Rattle.rules.proofs.Needs.{halves, ends}
 use Rattle.steps.proofs.Delivers.{peer-low, start-not, start-goes}
 use borrow.Author.Needs.{needs}
 use Rattle.steps.proofs.start.Statement.{statement}
@@ -29,7 +29,7 @@ returns c =
     let s = c .before .before in
     let b = s .before .before .before in
     let may = sym (b .before .may-act .ensures) ∙ b .if1 .taken in
-    carried (s .send-named .ensures) (start-goes _ _ _ _ may (s .before .nothing-known .ensures .1))
+    ends (sym (start-goes _ _ _ _ may (s .before .nothing-known .ensures .1))) (s .send-named .ensures)
 
 same-length-2 : tie.Need-same-length-2
 same-length-2 c = search needs

@@ -1,6 +1,5 @@
 -- `terms::sure_number` meets its contract: the test is the definition's. Assumes nothing.
 use mathlib.Core.Path.{refl}
-use borrow.Author.Needs.{needs}
 use borrow.Author.Tests.{lt-ltb, le-ltb}
 use Rattle.terms.specs.Elements.{sureNumber}
 use Rattle.terms.proofs.sure_number.Statement.{statement}
