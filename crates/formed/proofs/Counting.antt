@@ -3,14 +3,15 @@ use Prim.Native.Nat.{ℕ, _+_, _*_, _≤_, _<_}
 use native.Mathlib.Nat.{mul-le-mul-left}
 use native.Mathlib.Omega.{arith}
 use native.Mathlib.Decide.{ℕ-discrete}
-use mathlib.Core.Path.{_≡_, refl, ap, _∙_}
+use mathlib.Core.Path.{_≡_, refl, sym, ap, _∙_}
 use mathlib.Core.Bool.{Bool, true, false, not}
 use mathlib.Core.List.{List}
-use lib.Dec.{eqb, leb}
+use lib.Dec.{eqb, leb, ltb}
 use lib.ListN.{length, getD, set, replicate, length-set, getD-replicate}
 use lib.Seq.{getD-set-same, getD-set-other}
-use borrow.Author.Tests.{leb-true, lt-ltb, le-ltb}
-use Rattle.rules.specs.Choice.{_or_, if_then_else_, count}
+use borrow.Author.Count.{below-more}
+use borrow.Author.Tests.{leb-true}
+use Rattle.rules.specs.Choice.{_and_, _or_, if_then_else_, count}
 use Rattle.rules.specs.Table.{Table, size, most, rowWidth, wordsFor, version, participants, capacity, word, used, nextHandle, handle, everyKnower}
 use Rattle.rules.specs.Handles.{holds, held}
 use Rattle.rules.specs.WellFormed.{runIsLong, usedFits, mayHold, handleIsBelow, handlesFit}
@@ -18,7 +19,7 @@ use Rattle.rules.proofs.Logic.{and-right, never, fails}
 use Rattle.rules.proofs.Walks.{all-at, count-next}
 use Rattle.rules.proofs.Words.{most-high, word-head}
 use Rattle.rules.proofs.Granting.{handle-in, next-in}
-use Rattle.rules.proofs.Formed.{words-for, knower-at, knower-from}
+use Rattle.rules.proofs.Formed.{words-for, knower-at, knower-from, knower-fails}
 use Rattle.formed.specs.Counts.{Counts, handleIsBelowAt, handlesAreBelow}
 
 -- ---- the words of knower k that a turn reads
@@ -31,13 +32,9 @@ module _ (t : Table) (k : ℕ) (known : k ≤ most t) where
   next-there = next-in t k known ∙ word-head t (5 + k)
 
   module _ (w e h : ℕ) (isWidth : w ≡ rowWidth t) (isHandle : h ≡ getD t (w * e + 7 + k) 0) where
-    pub is-below : h < getD t (5 + k) 0 → handleIsBelow t k e ≡ true
+    pub below-is : handleIsBelow t k e ≡ ltb h (getD t (5 + k) 0)
     unfolding handleIsBelow
-    is-below l = rw (handle-there w e isWidth, next-there, ← isHandle) (lt-ltb _ _ l)
-
-    pub not-below : getD t (5 + k) 0 ≤ h → handleIsBelow t k e ≡ false
-    unfolding handleIsBelow
-    not-below l = rw (handle-there w e isWidth, next-there, ← isHandle) (le-ltb _ _ l)
+    below-is = rw (handle-there w e isWidth, next-there, ← isHandle) refl
 
     pub one-more : holds t k e ≡ not (eqb h 0)
     unfolding holds
@@ -68,6 +65,21 @@ turned t e k one ns known q b = record {
     go : (j : ℕ) → j < k + 1 → Dec (j ≡ k) → getD (set ns k (getD ns k 0 + one)) j 0 ≡ count (holds t j) (e + 1)
     go j l (yes z) = rw z here
     go j l (no z) = getD-set-other ns k j _ 0 z ∙ b .done j (omega arith)
+
+-- ---- b says whether all knowers below k pass the test
+pub data Passed (f : ℕ → Bool) (k : ℕ) (b : Bool) : Type 0 where
+  each : b ≡ true → ((j : ℕ) → j < k → f j ≡ true) → Passed f k b
+  not-each : b ≡ false → (j : ℕ) → j < k → f j ≡ false → Passed f k b
+
+pub passed-next : (f : ℕ → Bool) (k : ℕ) {b b′ x : Bool} → f k ≡ x → b′ ≡ x and b → Passed f k b → Passed f (k + 1) b′
+passed-next f k {x = true} q r (each p h) = each (r ∙ p) (below-more _ k h q)
+passed-next f k {x = false} q r (each p h) = not-each r k (omega arith) q
+passed-next f k {x = true} q r (not-each p j l h) = not-each (r ∙ p) j (omega arith) h
+passed-next f k {x = false} q r (not-each p j l h) = not-each r j (omega arith) h
+
+pub passed-all : (t : Table) (f : ℕ → Bool) (k : ℕ) {b : Bool} → k ≡ most t + 1 → Passed f k b → b ≡ everyKnower t f
+passed-all t f k z (each p h) = p ∙ sym (knower-from t f (λ j l. h j (omega arith)))
+passed-all t f k z (not-each p j l h) = p ∙ sym (knower-fails t f j (omega arith) h)
 
 -- ---- what the rows say of the knowers
 module _ (t : Table) where

@@ -2,8 +2,8 @@
 ghost use mathlib.Core.Path.{_≡_};
 ghost use mathlib.Core.Bool.{true, not};
 ghost use Prim.Native.Nat.{_+_, _*_, _≤_, _<_};
-ghost use lib.Dec.{eqb};
-ghost use Rattle.rules.specs.Choice.{_or_, if_then_else_, agree, all};
+ghost use lib.Dec.{eqb, ltb};
+ghost use Rattle.rules.specs.Choice.{_and_, _or_, if_then_else_, agree, all};
 ghost use Rattle.rules.specs.Table.{size, most, rowWidth, participants, mask, used, sparesFit, inMask, everyKnower};
 ghost use Rattle.rules.specs.Handles.{holds, held};
 ghost use Rattle.rules.specs.SetUp.{holdsSecretKey, holdsPublicKey};
@@ -187,27 +187,37 @@ fn one_if_held(h: u16) -> u16
     if h != 0 { 1 } else { 0 }
 }
 
-// Counts the handles on the entry after the first e, for each knower. It stops at one that isn't below its knower's next handle.
+// What was below stays so with a handle h that is below the next one.
+fn still_below(below: bool, h: u16, next: u16) -> bool
+    ensures { λ r. ⌜ r ≡ ltb h next and below ⌝ }
+{
+    if next <= h {
+        return false;
+    }
+    below
+}
+
+// Counts the handles on the entry after the first e, for each knower; whether each is below its knower's next handle. The walk has no
+// way out in its middle, so that several knowers can be compiled into one turn.
 fn row_is_counted(t: &[u16], e: u16, held: &mut [u16; 13]) -> bool
     requires { ⌜ (e < 65535) × (rowWidth (now t) * (e + 1) + rowWidth (now t) ≤ size (now t)) × Counts (now t) e (now held) ⌝ }
     ensures below { λ r. ⌜ r ≡ everyKnower (now (t .entry)) (handleIsBelowAt (now (t .entry)) (e + 1)) ⌝ }
-    ensures counts { λ r. ⌜ (r ≡ true → Counts (now (t .entry)) (e + 1) (now (held .exit))) ⌝ }
+    ensures counts { λ _. ⌜ Counts (now (t .entry)) (e + 1) (now (held .exit)) ⌝ }
 {
     let from = rows::row_width(t) * (e as usize + 1);
     let most = rows::most(t) as usize;
+    let mut below = true;
     let mut k: usize = 0;
     while k <= most {
         let h = t[from + 7 + k];
-        if t[5 + k] <= h {
-            return false;
-        }
+        below = still_below(below, h, t[5 + k]);
         held[k] += one_if_held(h);
         k += 1;
     }
-    true
+    below
 }
 
-// Counts the handles on every used entry.
+// Counts the handles on every used entry. It stops at one with a handle that isn't below its knower's next one.
 fn rows_are_counted(t: &[u16], held: &mut [u16; 13]) -> bool
     requires { ⌜ (rowWidth (now t) * used (now t) + rowWidth (now t) ≤ size (now t)) × Counts (now t) 0 (now held) ⌝ }
     ensures below { λ r. ⌜ r ≡ everyKnower (now (t .entry)) (handlesAreBelow (now (t .entry)) (used (now (t .entry)))) ⌝ }

@@ -1,27 +1,23 @@
--- `formed::row_is_counted` meets its contract: when knower k is reached the handles of all below it are below and counted.
--- Assumes nothing.
-use Prim.Native.Nat.{ℕ, _+_, _-_, _≤_, _<_}
+-- `formed::row_is_counted` meets its contract: when knower k is reached the handles of all before it are counted, and the flag says whether
+-- they are below. Assumes nothing.
+use Prim.Native.Nat.{_+_, _-_, _≤_}
 use native.Mathlib.Omega.{arith}
-use mathlib.Core.Path.{_≡_, refl, sym}
-use mathlib.Core.Bool.{true}
-use borrow.Author.Count.{below-more}
+use mathlib.Core.Path.{refl}
 use borrow.Author.Needs.{needs}
 use Rattle.rules.specs.Handles.{holds}
-use Rattle.rules.specs.WellFormed.{handleIsBelow}
-use Rattle.rules.proofs.Logic.{never}
 use Rattle.rules.proofs.Words.{most-high}
 use Rattle.rules.proofs.Walks.{count-le}
-use Rattle.rules.proofs.Formed.{knower-from, knower-fails}
 use Rattle.rows.proofs.Places.{place-low}
-use Rattle.formed.proofs.Counting.{Turned, turned, is-below, not-below, one-more}
+use Rattle.formed.specs.Counts.{handleIsBelowAt}
+use Rattle.formed.proofs.Counting.{Turned, turned, Passed, each, passed-next, passed-all, below-is, one-more}
 use Rattle.formed.proofs.row_is_counted.Statement.{statement}
 use Rattle.formed.proofs.row_is_counted.Tie as tie
 
 abbrev Inv-loop : tie.InvT-loop
-Inv-loop t e held₀ from most k₀ held k = (k ≤ most + 1) × ((j : ℕ) → j < k → handleIsBelow t j (e + 1) ≡ true) × Turned t e k held
+Inv-loop t e held₀ from most below₀ k₀ held below k = (k ≤ most + 1) × Passed (handleIsBelowAt t (e + 1)) k below × Turned t e k held
 
 abbrev μ-loop : tie.MeasureT-loop
-μ-loop t e held₀ from most k₀ held k = most + 1 - k
+μ-loop t e held₀ from most below₀ k₀ held below k = most + 1 - k
 
 row-width-requires : tie.Need-row-width-requires Inv-loop μ-loop
 row-width-requires c κs = search needs
@@ -41,7 +37,7 @@ cast-most c = search needs
 loop-holds : tie.Need-loop-holds Inv-loop μ-loop
 loop-holds c =
     let pre = c .before .before .before .pre in
-    (omega arith, λ j l. absurd (omega arith), record { long = pre .2 .long; done = λ j l. absurd (omega arith); left = λ j a b. pre .2 .at j b })
+    (omega arith, each refl (λ j l. absurd (omega arith)), record { long = pre .2 .long; done = λ j l. absurd (omega arith); left = λ j a b. pre .2 .at j b })
 
 add-h : tie.Need-add-h Inv-loop μ-loop
 add-h c =
@@ -66,24 +62,19 @@ shared-slice-read-h c =
     let room = rw (← b .row-width .ensures) at (b .before .before .pre .1) in
     omega (arith, room, b .row-width .ensures, c .before .before .before .most .ensures)
 
-add-if1 : tie.Need-add-if1 Inv-loop μ-loop
-add-if1 c = omega (arith, c .before .before .before .most .ensures, most-high (c .before .before .before .before .before .before .args .t .now))
+add-still-below : tie.Need-add-still-below Inv-loop μ-loop
+add-still-below c = omega (arith, c .before .before .before .most .ensures, most-high (c .before .before .before .before .before .before .args .t .now))
 
-mul-if1 : tie.Need-mul-if1 Inv-loop μ-loop
-mul-if1 c = omega (arith, c .before .before .before .most .ensures, most-high (c .before .before .before .before .before .before .args .t .now))
+mul-still-below : tie.Need-mul-still-below Inv-loop μ-loop
+mul-still-below c = omega (arith, c .before .before .before .most .ensures, most-high (c .before .before .before .before .before .before .args .t .now))
 
-shared-slice-read-if1 : tie.Need-shared-slice-read-if1 Inv-loop μ-loop
-shared-slice-read-if1 c =
+shared-slice-read-still-below : tie.Need-shared-slice-read-still-below Inv-loop μ-loop
+shared-slice-read-still-below c =
     let b = c .before .before .before .before .before in
     omega (arith, b .before .before .pre .1, c .before .before .before .before .most .ensures)
 
-returns : tie.Need-returns Inv-loop μ-loop
-returns c =
-    let b = c .before .before .before .before in
-    let s = b .before .before .before .before in
-    let known = rw (b .before .most .ensures) at (c .before .before .before .loop-test .taken) in
-    let fails = not-below (s .args .t .now) (b .loop .k) known _ (s .args .e + 1) _ (b .before .before .row-width .ensures) refl (c .if1 .taken) in
-    (sym (knower-fails _ _ (b .loop .k) known fails), λ q. never q refl)
+still-below-requires : tie.Need-still-below-requires Inv-loop μ-loop
+still-below-requires c κs = search needs
 
 one-if-held-requires : tie.Need-one-if-held-requires Inv-loop μ-loop
 one-if-held-requires c κs = search needs
@@ -125,15 +116,15 @@ loop-again c =
     let t = s .args .t .now in
     let known = rw (b .before .most .ensures) at (c .before .before .before .before .before .loop-test .taken) in
     let isWidth = b .before .before .row-width .ensures in
-    let below = is-below t (b .loop .k) known _ (s .args .e + 1) _ isWidth refl (c .before .before .if1 .left) in
+    let below = below-is t (b .loop .k) known _ (s .args .e + 1) _ isWidth refl in
     let one = rw (← one-more t (b .loop .k) known _ (s .args .e + 1) _ isWidth refl) at (c .before .one-if-held .ensures .0) in
-    (omega arith, below-more _ _ (b .loop .inv .1) below, turned t (s .args .e) (b .loop .k) _ _ known one (b .loop .inv .2))
+    (omega arith, passed-next _ _ below (c .before .before .still-below .ensures) (b .loop .inv .1), turned t (s .args .e) (b .loop .k) _ _ known one (b .loop .inv .2))
 
-returns-2 : tie.Need-returns-2 Inv-loop μ-loop
-returns-2 c =
+returns : tie.Need-returns Inv-loop μ-loop
+returns c =
     let b = c .before .before in (
-      sym (knower-from _ _ (λ j l. c .before .loop .inv .1 j (omega (arith, b .most .ensures)))),
-      λ q. record { long = c .before .loop .inv .2 .long; at = λ j l. c .before .loop .inv .2 .done j (omega (arith, b .most .ensures)) },
+      passed-all _ _ (c .before .loop .k) (omega (arith, b .most .ensures)) (c .before .loop .inv .1),
+      record { long = c .before .loop .inv .2 .long; at = λ j l. c .before .loop .inv .2 .done j (omega (arith, b .most .ensures)) },
     )
 
 pub row-is-counted-spec : {M : Type 1} → statement M
@@ -152,10 +143,10 @@ row-is-counted-spec =
     add-h-2
     mul-h
     shared-slice-read-h
-    add-if1
-    mul-if1
-    shared-slice-read-if1
-    returns
+    add-still-below
+    mul-still-below
+    shared-slice-read-still-below
+    still-below-requires
     one-if-held-requires
     mul-held
     element-copy-out-held
@@ -164,4 +155,4 @@ row-is-counted-spec =
     add-k
     loop-less
     loop-again
-    returns-2)
+    returns)

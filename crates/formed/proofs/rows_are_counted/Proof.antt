@@ -4,7 +4,6 @@ use native.Mathlib.Nat.{mul-le-mul-left}
 use native.Mathlib.Omega.{arith}
 use mathlib.Core.Path.{_≡_, refl, sym, _∙_}
 use mathlib.Core.Bool.{true}
-use borrow.Author.Tests.{not-false}
 use borrow.Author.Needs.{needs}
 use Rattle.rules.specs.Choice.{all}
 use Rattle.rules.specs.Table.{most, rowWidth, used}
@@ -57,7 +56,7 @@ loop-again c =
     let row = found-true (c .before .row-is-counted .ensures .0) (c .if1 .left) in (
       omega arith,
       λ k known. rw (all-next, b .loop .inv .1 k known) (knower-at t (handleIsBelowAt t (b .loop .e + 1)) row k known),
-      c .before .row-is-counted .ensures .1 (not-false _ (c .if1 .left)),
+      c .before .row-is-counted .ensures .1,
     )
 
 returns-2 : tie.Need-returns-2 Inv-loop μ-loop
