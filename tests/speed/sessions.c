@@ -1,3 +1,4 @@
+/* Makes the sessions that `tools/speed` plays. What each is like is said beside the function that makes it. */
 #include "sessions.h"
 
 #include <stdio.h>

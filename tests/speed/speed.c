@@ -233,23 +233,46 @@ static void time_ways(const struct session *s, double *best)
         }
 }
 
-/* The same of two sessions in one way. */
-static void time_two(const struct way *way, const struct session *first, const struct session *second, double *best)
+static int compare(const void *a, const void *b)
 {
-    const struct session *const both[] = {first, second};
-    double began = wall();
-    int i, turn;
+    double x = *(const double *)a, y = *(const double *)b;
 
-    best[0] = best[1] = 1e18;
-    for (turn = 0; turn < 50 || (turn < 20000 && wall() - began < 2.5e8); turn++)
+    return (x > y) - (x < y);
+}
+
+static double median(double *some, int count)
+{
+    qsort(some, (size_t)count, sizeof *some, compare);
+    return some[count / 2];
+}
+
+#define TURNS 4000
+
+/* The nanoseconds that the end of a session takes a player: in each turn the whole is played, and the same bytes without the end, and of
+   all differences the middle one is taken. Filling the table can take a hundred times as long as the end, so the least times of both
+   would be those of two unlike fillings; what slows the machine for a while slows both of one turn. Each is first in every other turn,
+   since a processor foresees branches by what it ran before. The result is 0 if the halves of the turns differ by a quarter. */
+static double time_end(const struct way *way, const struct session *whole, size_t without)
+{
+    static double more[TURNS];
+    double first, second;
+    int turn, i;
+
+    for (turn = 0; turn < TURNS; turn++) {
+        double took[2];
+
         for (i = 0; i < 2; i++) {
-            double before = wall(), took;
+            int to_end = (turn + i) % 2;
+            double before = wall();
 
-            run(way, both[i]);
-            took = wall() - before;
-            if (took < best[i])
-                best[i] = took;
+            way->play(whole->bytes, to_end ? whole->size : without, output, sizeof output);
+            took[to_end] = wall() - before;
         }
+        more[turn] = took[1] - took[0];
+    }
+    first = median(more, TURNS / 2);
+    second = median(more + TURNS / 2, TURNS / 2);
+    return 4 * first < 5 * second && 4 * second < 5 * first ? (first + second) / 2 : 0;
 }
 
 /* The least nanoseconds of one command on the table that a session leaves, in groups of so many. */
@@ -308,7 +331,8 @@ static void print_sessions(void)
     }
 }
 
-static double grown[SIZES][COMMANDS + 1][2][2]; /* size, command or the single call, proved or reference, instructions or ns */
+/* Size, command or the single call, proved or reference, instructions or ns, of which 0 stands for none. */
+static double grown[SIZES][COMMANDS + 1][2][2];
 
 static void measure_growth(void)
 {
@@ -320,10 +344,7 @@ static void measure_growth(void)
             lengthen((enum command)j);
             agree(&longer, growing[j].name);
             for (way = PROVED; way <= REFERENCE; way++) {
-                double best[2];
-
-                time_two(&ways[way], &session, &longer, best);
-                grown[i][j][way][1] = (best[1] - best[0]) / growing[j].times;
+                grown[i][j][way][1] = time_end(&ways[way], &longer, session.size) / growing[j].times;
                 grown[i][j][way][0] = (instructions(counted_as(growing[j].name, sizes[i], ways[way].name)) -
                                        instructions(counted_as("filled", sizes[i], ways[way].name))) /
                                       growing[j].times;
@@ -335,6 +356,14 @@ static void measure_growth(void)
             grown[i][COMMANDS][way][0] = instructions(counted_as("tested", sizes[i], ways[PROVED_SINGLE + way].name));
         }
     }
+}
+
+static void print_number(double number)
+{
+    if (number > 0)
+        printf("%.0f", number);
+    else
+        printf("-");
 }
 
 static void print_growth(const char *title, int what)
@@ -349,8 +378,13 @@ static void print_growth(const char *title, int what)
         printf("---|");
     for (j = 0; j <= COMMANDS; j++) {
         printf("\n| %s |", j < COMMANDS ? growing[j].name : "parse, with the test of the table");
-        for (i = 0; i < SIZES; i++)
-            printf(" %.0f / %.0f |", grown[i][j][PROVED][what], grown[i][j][REFERENCE][what]);
+        for (i = 0; i < SIZES; i++) {
+            printf(" ");
+            print_number(grown[i][j][PROVED][what]);
+            printf(" / ");
+            print_number(grown[i][j][REFERENCE][what]);
+            printf(" |");
+        }
     }
     printf("\n");
 }
