@@ -68,9 +68,6 @@ rows·capacity = rows-unique.capacity
 pub rows·used : Tight rows.used.ended (λ M. rows.used.clauses)
 rows·used = rows-unique.used
 
-pub rows·next-with : Tight rows.next_with.ended (λ M. rows.next_with.clauses)
-rows·next-with = rows-unique.next-with
-
 pub rows·kind : Tight rows.kind.ended (λ M. rows.kind.clauses)
 rows·kind = rows-unique.kind
 
@@ -88,6 +85,9 @@ rows·third = rows-unique.third
 
 pub rows·length : Tight rows.length.ended (λ M. rows.length.clauses)
 rows·length = rows-unique.length
+
+pub rows·next-with : Tight rows.next_with.ended (λ M. rows.next_with.clauses)
+rows·next-with = rows-unique.next-with
 
 pub handles·raised : Tight handles.raised.ended (λ M. handles.raised.clauses)
 handles·raised = handles-unique.raised
