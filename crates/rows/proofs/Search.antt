@@ -6,6 +6,7 @@ use native.Mathlib.Numerals.{add-one}
 use native.Mathlib.Omega.{arith}
 use native.Mathlib.Decide.{decLe, decLt, ℕ-discrete}
 use mathlib.Core.Path.{_≡_, refl, sym, ap, _∙_}
+use mathlib.Core.Logic.{_≢_}
 use mathlib.Core.Bool.{Bool, true, false}
 use mathlib.Core.List.{[], _∷_}
 use types.Run.{OneOf}
@@ -23,7 +24,7 @@ use Rattle.rules.proofs.Found.{the-type}
 use Rattle.rules.proofs.Logic.{and-left, and-right, both, never, fails}
 use Rattle.rules.proofs.Walks.{Lowest, nowhere, somewhere, lowest-is, lowest-first, lowest-same}
 use Rattle.rules.proofs.Meaning.{scan-found, scan-nothing}
-use Rattle.rows.specs.Search.{hasBoth, passesAbove, nextWith, NoneTo, Reached}
+use Rattle.rows.specs.Search.{hasBoth, passesAbove, nextWith, NoneTo, Reached, Passes}
 
 -- ---- no number of 1 to n passes the test
 module _ (f : ℕ → Bool) (n : ℕ) where
@@ -121,6 +122,12 @@ module _ (t : Table) (e k v j w : ℕ) where
       -- the last used row starts at `last`
       pub reached-found : (last : ℕ) → last ≡ m * used t → at < last → b ≡ true → ((at + m) / m) ∷ [] ≡ orNothing (nextWith t e k v j w)
       reached-found last ends l q = rw row-more (next-found (r .row) (r .from) (row-used last ends l) (r .none) (sym both-more ∙ q))
+
+-- ---- a row that has another first word is passed, whatever the other is
+pub passes-more : (t : Table) (k v m from at : ℕ) → m ≡ rowWidth t → getD t (at + m + k) 0 ≢ v → Passes t k v from at
+    → Passes t k v from (at + m)
+passes-more t k v m from at width h p e j w r =
+    reached-more t e k v j w m at width (p e j w r) _ refl (rw (ne-eqb (getD t (at + m + k) 0) v h) refl)
 
 -- ---- a search's answer, in the arm that it is matched in
 pub found : (n : ℕ) (f : Found) (e : Entry) → foundAt f ≡ orNothing n → f ≡ At e → (n ≡ 0 → ⊥) × (n ≡ e .0)

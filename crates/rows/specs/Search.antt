@@ -28,3 +28,7 @@ pub record Reached (t : Table) (e : ℕ) (f : ℕ → Bool) (at : ℕ) : Type 0 
   pub place : at ≡ rowWidth t * row
   pub from : e ≤ row
   pub none : NoneTo e f row
+
+-- no row between two places has v as its word k: where the search for it and another word may stand at the one, it may at the other
+abbrev pub Passes : Table → ℕ → ℕ → ℕ → ℕ → Type 0
+Passes t k v from at = (e j w : ℕ) → Reached t e (hasBoth t k v j w) from → Reached t e (hasBoth t k v j w) at

@@ -1,14 +1,14 @@
 // The lent run as rows of numbers: row 0 is the head, row e is entry e (rules T1 to T3). Reads past the end give 0, writes there do nothing.
 ghost use mathlib.Core.Path.{_≡_};
 ghost use mathlib.Core.List.{_++_};
-ghost use Prim.Native.Nat.{_+_, _<_, _≤_};
+ghost use Prim.Native.Nat.{_+_, _*_, _<_, _≤_};
 ghost use lib.Dec.{eqb};
 ghost use lib.ListN.{length, getD, replicate};
 ghost use Rattle.rules.specs.Choice.{_and_};
 ghost use Rattle.rules.specs.Table.{most, rowWidth, word, put, withRow, participants, mask, capacity, used, typeAt, countAt, argument, lengthAt};
 ghost use Rattle.rules.specs.Meaning.{foundAt, orNothing};
 ghost use Rattle.rows.specs.Row.{seven, filled};
-ghost use Rattle.rows.specs.Search.{hasBoth, nextWith, Reached};
+ghost use Rattle.rows.specs.Search.{hasBoth, nextWith, Passes};
 use rules::Entry;
 use rules::Found;
 
@@ -195,31 +195,39 @@ fn next_by_word(t: &[u16], e: Entry, k: u16, v: u16, j: u16, w: u16) -> Found
     Found::Nothing
 }
 
-// From a row on the search goes by four rows a turn, not past the row that starts at `last`, and stands before four of which one has both.
-fn pass_fours(t: &[u16], row: u16, k: u16, v: u16, j: u16, w: u16, last: usize) -> usize
-    requires { ⌜ (last + k < length (now t)) × (last + j < length (now t)) ⌝ }
-    ensures { λ r. ⌜ Reached (now (t .entry)) row (hasBoth (now (t .entry)) k v j w) r ⌝ }
+// The search goes on from a row's place by four rows a turn, not past the place `last`. It stops before a row that has v as its word k, or
+// where fewer than four are left.
+fn pass_fours(t: &[u16], from: usize, k: u16, v: u16, last: usize) -> usize
+    requires { ⌜ (from ≤ 20 * 65536 + length (now t)) × (last + k < length (now t)) ⌝ }
+    ensures further { λ r. ⌜ from ≤ r ⌝ }
+    ensures passes { λ r. ⌜ Passes (now (t .entry)) k v from r ⌝ }
 {
     let width = row_width(t);
-    let mut at = width * row as usize;
+    let mut at = from;
     while at + 4 * width <= last {
         let a = at + width;
         let b = a + width;
         let c = b + width;
         let d = c + width;
-        if has_both_at(t, a, k, v, j, w)
-            || has_both_at(t, b, k, v, j, w)
-            || has_both_at(t, c, k, v, j, w)
-            || has_both_at(t, d, k, v, j, w)
-        {
+        if t[a + k as usize] == v {
             return at;
+        }
+        if t[b + k as usize] == v {
+            return a;
+        }
+        if t[c + k as usize] == v {
+            return b;
+        }
+        if t[d + k as usize] == v {
+            return c;
         }
         at = d;
     }
     at
 }
 
-// The lowest used entry above e that has v as its word k and w as its word j. Entries are gone through by the place where each row starts.
+// The lowest used entry above e that has v as its word k and w as its word j. Entries are gone through by the places where their rows
+// start, quickly by the first of the two words.
 pub fn next_with(t: &[u16], e: Entry, k: u16, v: u16, j: u16, w: u16) -> Found
     ensures { λ r. ⌜ foundAt r ≡ orNothing (nextWith (now (t .entry)) (e .0) k v j w) ⌝ }
 {
@@ -229,12 +237,13 @@ pub fn next_with(t: &[u16], e: Entry, k: u16, v: u16, j: u16, w: u16) -> Found
         return next_by_word(t, e, k, v, j, w);
     }
     let row = e.0;
-    let mut at = pass_fours(t, row, k, v, j, w, last);
+    let mut at = pass_fours(t, width * row as usize, k, v, last);
     while at < last {
         at += width;
         if has_both_at(t, at, k, v, j, w) {
             return Found::At(Entry((at / width) as u16));
         }
+        at = pass_fours(t, at, k, v, last);
     }
     Found::Nothing
 }

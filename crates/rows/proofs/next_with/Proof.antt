@@ -8,7 +8,7 @@ use Rattle.rules.specs.Table.{Table, used}
 use Rattle.rules.specs.Meaning.{foundAt}
 use Rattle.rows.specs.Search.{hasBoth, Reached}
 use Rattle.rows.proofs.Places.{place-low}
-use Rattle.rows.proofs.Search.{reached-more, more-fits, found-low, reached-found, reached-last}
+use Rattle.rows.proofs.Search.{reached-first, reached-more, more-fits, found-low, reached-found, reached-last}
 use Rattle.rows.proofs.next_with.Statement.{statement}
 use Rattle.rows.proofs.next_with.Tie as tie
 
@@ -54,11 +54,25 @@ next-by-word-requires c κs = search needs
 returns : tie.Need-returns Inv-loop μ-loop
 returns c = c .next-by-word .ensures
 
+cast-pass-fours : tie.Need-cast-pass-fours Inv-loop μ-loop
+cast-pass-fours c = search needs
+
+mul-pass-fours : tie.Need-mul-pass-fours Inv-loop μ-loop
+mul-pass-fours c =
+    let b = c .before .before .before in
+    let row = b .before .before .args .e .0 in
+    let l : row < 65536 = omega arith in
+    omega (arith, place-low _ _ row (b .row-width .ensures) l)
+
 pass-fours-requires : tie.Need-pass-fours-requires Inv-loop μ-loop
-pass-fours-requires c κs = (omega (arith, c .before .larger .ensures .0), omega (arith, c .before .larger .ensures .1))
+pass-fours-requires c κs =
+    let b = c .before .before .before in
+    let row = b .before .before .args .e .0 in
+    let l : row < 65536 = omega arith in
+    (omega (arith, place-low _ _ row (b .row-width .ensures) l), omega (arith, c .before .larger .ensures .0))
 
 loop-holds : tie.Need-loop-holds Inv-loop μ-loop
-loop-holds c = c .pass-fours .ensures
+loop-holds c = c .pass-fours .ensures .1 _ _ _ (reached-first _ _ _ _ _ _ _ (c .before .before .before .before .row-width .ensures))
 
 add-at : tie.Need-add-at Inv-loop μ-loop
 add-at c =
@@ -90,13 +104,23 @@ returns-2 c =
     let b = l .before .before .before .before in
     reached-found _ _ _ _ _ _ _ _ (b .before .row-width .ensures) (l .loop .inv) _ (c .before .has-both-at .ensures) _ (last-is _ _ _ (b .used .ensures)) (c .before .before .loop-test .taken) (c .if2 .taken)
 
+pass-fours-requires-2 : tie.Need-pass-fours-requires-2 Inv-loop μ-loop
+pass-fours-requires-2 c κs =
+    let l = c .before .before .before in
+    let larger = l .before .before .before in
+    let b = larger .before in
+    let fits = more-fits _ _ _ _ _ _ _ _ (b .before .row-width .ensures) (l .loop .inv) _ (last-is _ _ _ (b .used .ensures)) (c .before .before .loop-test .taken) in
+    (omega (arith, fits), omega (arith, larger .larger .ensures .0))
+
 loop-less : tie.Need-loop-less Inv-loop μ-loop
-loop-less c = omega (arith, c .before .before .before .before .before .before .before .before .row-width .ensures)
+loop-less c = omega (arith, c .pass-fours2 .ensures .0, c .before .before .before .before .before .before .before .before .before .row-width .ensures)
 
 loop-again : tie.Need-loop-again Inv-loop μ-loop
 loop-again c =
-    let l = c .before .before .before in
-    reached-more _ _ _ _ _ _ _ _ (l .before .before .before .before .before .row-width .ensures) (l .loop .inv) _ (c .before .has-both-at .ensures) (c .if2 .left)
+    let l = c .before .before .before .before in
+    let width = l .before .before .before .before .before .row-width .ensures in
+    c .pass-fours2 .ensures .1 _ _ _
+    (reached-more _ _ _ _ _ _ _ _ width (l .loop .inv) _ (c .before .before .has-both-at .ensures) (c .before .if2 .left))
 
 returns-3 : tie.Need-returns-3 Inv-loop μ-loop
 unfolding foundAt
@@ -120,6 +144,8 @@ next-with-spec =
     add-if1
     next-by-word-requires
     returns
+    cast-pass-fours
+    mul-pass-fours
     pass-fours-requires
     loop-holds
     add-at
@@ -127,6 +153,7 @@ next-with-spec =
     div-t18
     cast-t19
     returns-2
+    pass-fours-requires-2
     loop-less
     loop-again
     returns-3)
