@@ -11,7 +11,7 @@ fn number(high: u8, low: u8) -> u16 {
     256 * high as u16 + low as u16
 }
 
-// What is asked to be written. A count is a list's alone.
+// What is asked to be written. A count is a list's alone. It isn't taken from the reader, so that the comparison leans on the writer alone.
 fn command(r: [u8; 12]) -> Command {
     let k = number(r[1], r[2]);
     let a = number(r[3], r[4]);
