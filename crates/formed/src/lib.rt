@@ -6,9 +6,10 @@ ghost use lib.Dec.{eqb, ltb};
 ghost use Rattle.rules.specs.Choice.{_and_, _or_, if_then_else_, agree, all};
 ghost use Rattle.rules.specs.Table.{size, most, rowWidth, participants, mask, used, sparesFit, inMask, everyKnower};
 ghost use Rattle.rules.specs.Handles.{holds, held};
-ghost use Rattle.rules.specs.SetUp.{holdsSecretKey, holdsPublicKey};
-ghost use Rattle.rules.specs.WellFormed.{runIsLong, headFits, usedFits, heldAsNamed, isSecretKeyOf, isPublicKeyOf, keysFit};
+ghost use Rattle.rules.specs.SetUp.{holdsSecretKey};
+ghost use Rattle.rules.specs.WellFormed.{runIsLong, headFits, usedFits, heldAsNamed, keysFit};
 ghost use Rattle.rules.specs.WellFormed.{mayHold, handlesFit, wellFormed};
+ghost use Rattle.formed.specs.Keys.{namedFor, isKeyOf};
 ghost use Rattle.formed.specs.Counts.{Counts, handleIsBelowAt, handlesAreBelow};
 use rules::Entry;
 
@@ -86,30 +87,27 @@ fn holds_secret_key(mask: u16, p: u16, honest: bool, k: u16) -> bool
     k == 0
 }
 
-fn secret_key_is_held(t: &[u16], p: u16, e: Entry) -> bool
-    ensures { λ r. ⌜ r ≡ everyKnower (now (t .entry)) (heldAsNamed (now (t .entry)) (holdsSecretKey (mask (now (t .entry))) p) (e .0)) ⌝ }
+// Knower k has to hold participant p's key of this type, by the mask of the honest, among whom p is or isn't.
+fn is_named(kind: u16, mask: u16, p: u16, honest: bool, k: u16) -> bool
+    requires { ⌜ honest ≡ inMask mask p ⌝ }
+    ensures { λ r. ⌜ r ≡ namedFor kind mask p k ⌝ }
+{
+    if kind == 5 {
+        return holds_secret_key(mask, p, honest, k);
+    }
+    ranges::holds_public_key(mask, k)
+}
+
+// Just those knowers hold entry e that set-up names for participant p's key of this type.
+fn key_is_held(t: &[u16], kind: u16, p: u16, e: Entry) -> bool
+    ensures { λ r. ⌜ r ≡ everyKnower (now (t .entry)) (heldAsNamed (now (t .entry)) (namedFor kind (mask (now (t .entry))) p) (e .0)) ⌝ }
 {
     let mask = rows::mask(t);
     let honest = people::in_mask(mask, p);
-    let most = rows::most(t);
-    let mut k: u16 = 0;
-    while k <= most {
-        if !held_as_named(t, holds_secret_key(mask, p, honest, k), e, k) {
-            return false;
-        }
-        k += 1;
-    }
-    true
-}
-
-fn public_key_is_held(t: &[u16], e: Entry) -> bool
-    ensures { λ r. ⌜ r ≡ everyKnower (now (t .entry)) (heldAsNamed (now (t .entry)) (holdsPublicKey (mask (now (t .entry)))) (e .0)) ⌝ }
-{
-    let mask = rows::mask(t);
     let last = rows::most(t);
     let mut k: u16 = 0;
     while k <= last {
-        if !held_as_named(t, ranges::holds_public_key(mask, k), e, k) {
+        if !held_as_named(t, is_named(kind, mask, p, honest, k), e, k) {
             return false;
         }
         k += 1;
@@ -117,29 +115,17 @@ fn public_key_is_held(t: &[u16], e: Entry) -> bool
     true
 }
 
-// Entry e is participant p's secret key, held by just those that set-up names.
-fn is_secret_key_of(t: &[u16], p: u16, e: Entry) -> bool
-    ensures { λ r. ⌜ r ≡ isSecretKeyOf (now (t .entry)) p (e .0) ⌝ }
+// Entry e is participant p's key of this type, held by just those that set-up names.
+fn is_key_of(t: &[u16], kind: u16, p: u16, e: Entry) -> bool
+    ensures { λ r. ⌜ r ≡ isKeyOf (now (t .entry)) kind p (e .0) ⌝ }
 {
-    if rows::kind(t, e) != 5 {
-        return false; // no secret key
+    if rows::kind(t, e) != kind {
+        return false; // another type
     }
     if rows::first(t, e) != p {
-        return false; // another's secret key
+        return false; // another's key
     }
-    secret_key_is_held(t, p, e)
-}
-
-fn is_public_key_of(t: &[u16], p: u16, e: Entry) -> bool
-    ensures { λ r. ⌜ r ≡ isPublicKeyOf (now (t .entry)) p (e .0) ⌝ }
-{
-    if rows::kind(t, e) != 6 {
-        return false; // no public key
-    }
-    if rows::first(t, e) != p {
-        return false; // another's public key
-    }
-    public_key_is_held(t, e)
+    key_is_held(t, kind, p, e)
 }
 
 // Participant p's two keys stand at their entries.
@@ -147,10 +133,10 @@ fn keys_fit(t: &[u16], p: u16) -> bool
     requires { ⌜ (1 ≤ p) × (p ≤ most (now t)) ⌝ }
     ensures { λ r. ⌜ r ≡ keysFit (now (t .entry)) p ⌝ }
 {
-    if !is_secret_key_of(t, p, Entry(2 * p - 1)) {
+    if !is_key_of(t, 5, p, Entry(2 * p - 1)) {
         return false;
     }
-    is_public_key_of(t, p, Entry(2 * p))
+    is_key_of(t, 6, p, Entry(2 * p))
 }
 
 // The keys of every participant fit.
