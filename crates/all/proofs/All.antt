@@ -212,8 +212,14 @@ session·read-record = session-unique.read-record
 pub session·write-record : Tight session.write_record.ended (λ M. session.write_record.clauses)
 session·write-record = session-unique.write-record
 
+pub machine·is-set-up : Tight machine.is_set_up.ended (λ M. machine.is_set_up.clauses)
+machine·is-set-up = machine-unique.is-set-up
+
 pub machine·act : Tight machine.act.ended (λ M. machine.act.clauses)
 machine·act = machine-unique.act
+
+pub machine·perform : Tight machine.perform.ended (λ M. machine.perform.clauses)
+machine·perform = machine-unique.perform
 
 pub machine·start : Tight machine.start.ended (λ M. machine.start.clauses)
 machine·start = machine-unique.start
@@ -241,9 +247,6 @@ machine·decrypt = machine-unique.decrypt
 
 pub machine·parse : Tight machine.parse.ended (λ M. machine.parse.clauses)
 machine·parse = machine-unique.parse
-
-pub machine·perform : Tight machine.perform.ended (λ M. machine.perform.clauses)
-machine·perform = machine-unique.perform
 
 pub player·play : Tight player.play.ended (λ M. player.play.clauses)
 player·play = player-unique.play

@@ -2,10 +2,13 @@
 -- Assumes nothing.
 use mathlib.Core.Path.{refl}
 use mathlib.Core.List.{[], _∷_}
-use Rattle.tight.specs.Tight.{Tight, law, same-by}
+use Rattle.tight.specs.Tight.{Tight, law, same, same-by}
 use Rattle.rules.specs.Meaning.{said}
 use Rattle.rules.proofs.Meaning.{unsaid, said-back, told}
 use Rattle.machine.proofs as own
+
+pub is-set-up : Tight own.is_set_up.ended (λ M. own.is_set_up.clauses)
+is-set-up = law _ _ [] (λ κs a z z′ l l′ p q. (same (p []) (q []), refl))
 
 pub act : Tight own.act.ended (λ M. own.act.clauses)
 act = law _ _ (_ ∷ []) (λ κs a z z′ l l′ p q. told z z′ (l .0) (l′ .0) (l .1) p q)

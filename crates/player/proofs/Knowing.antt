@@ -16,25 +16,11 @@ use Rattle.rules.specs.Session.{standsRight}
 use Rattle.rules.proofs.Keeps.{not-formed, is-formed}
 use Rattle.rules.proofs.Stays.{step-formed}
 use Rattle.rules.proofs.SetUpFormed.{set-up-formed}
-use Rattle.player.specs.Known.{isSetUp, formedAfter}
+use Rattle.machine.specs.SetUps.{isSetUp}
+use Rattle.player.specs.Known.{formedAfter}
 
 -- ---- what is known of the table
 module _ (t : Table) where
-  pub known-formed : (r : Record) → wellFormed t ≡ true → perform r t ≡ untested r t
-  unfolding untested perform
-  known-formed (SetUp n m c) w = refl
-  known-formed (Asks r) w = is-formed r t w
-
-  pub known-set-up : (r : Record) → true ≡ isSetUp r → perform r t ≡ untested r t
-  unfolding untested perform isSetUp
-  known-set-up (SetUp n m c) p = refl
-  known-set-up (Asks r) p = cc
-
-  pub known-refused : (r : Record) → wellFormed t ≡ false → false ≡ isSetUp r → perform r t ≡ gives (refused 1) t
-  unfolding perform isSetUp
-  known-refused (SetUp n m c) w p = cc
-  known-refused (Asks r) w p = not-formed r t w
-
   after-formed : (a : List ℕ) → formedAfter true a ≡ true
   unfolding formedAfter
   after-formed a = go (eqb (getD a 0 0) 1)

@@ -1,16 +1,11 @@
 -- What the player keeps in mind of its table, so that it need not be examined: whether it is well formed, which a set-up alone makes it (rules
 -- M3 and F5).
 use Prim.Native.Nat.{ℕ}
-use mathlib.Core.Bool.{Bool, true, false}
+use mathlib.Core.Bool.{Bool, true}
 use mathlib.Core.List.{List}
 use lib.Dec.{eqb}
 use lib.ListN.{getD}
 use Rattle.rules.specs.Choice.{if_then_else_}
-use Rattle.rules.specs.Machine.{Record, SetUp, Asks}
-
-unfoldable pub isSetUp : Record → Bool
-isSetUp (SetUp n m c) = true
-isSetUp (Asks r) = false
 
 -- `ready`, the answer of number 1, makes the table well formed; any other leaves that as it was
 unfoldable pub formedAfter : Bool → List ℕ → Bool

@@ -11,35 +11,17 @@ ghost use Rattle.rules.specs.Player.{linesFrom, answersTo, played, mostBytes};
 ghost use Rattle.rules.specs.Meaning.{said, asked};
 ghost use Rattle.rules.specs.declared.Handle.{Handle};
 ghost use Rattle.text.specs.Put.{Put};
-ghost use Rattle.player.specs.Known.{isSetUp, formedAfter};
+ghost use Rattle.player.specs.Known.{formedAfter};
 use rules::Answer;
 use rules::Command;
 use rules::Handle;
 use session::Step;
 
-// A record is a set-up whatever handles stand beside it.
-fn is_set_up(c: Command) -> bool
-    ensures { λ r. ⌜ ((hs : List Handle) → r ≡ isSetUp (asked c hs)) ⌝ }
-{
-    match c {
-        Command::SetUp(_, _, _) => true,
-        Command::Start(_, _) => false,
-        Command::Deliver(_, _, _) => false,
-        Command::Store(_) => false,
-        Command::Nonce => false,
-        Command::List(_) => false,
-        Command::Project(_, _) => false,
-        Command::Encrypt(_, _) => false,
-        Command::Decrypt(_, _) => false,
-        Command::Parse(_) => false,
-    }
-}
-
 // F5: set-up stands first and only there.
 fn stands_right(c: Command, place: usize) -> bool
     ensures { λ r. ⌜ ((hs : List Handle) → r ≡ standsRight (asked c hs) place) ⌝ }
 {
-    if is_set_up(c) {
+    if machine::is_set_up(c) {
         return place == 1;
     }
     place != 1
@@ -54,7 +36,7 @@ fn perform_known(t: &mut [u16], formed: bool, c: Command, handles: [Handle; 4]) 
     if formed {
         return machine::act(t, c, handles);
     }
-    if is_set_up(c) {
+    if machine::is_set_up(c) {
         return machine::act(t, c, handles);
     }
     Answer::Refused(1)

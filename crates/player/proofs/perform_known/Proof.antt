@@ -1,7 +1,7 @@
 -- `player::perform_known` meets its contract: a set-up tests nothing, a request refuses with 1 or acts, by what is known. Assumes nothing.
 use mathlib.Core.Path.{refl, sym, _∙_}
 use Rattle.rules.specs.Meaning.{said}
-use Rattle.player.proofs.Knowing.{known-formed, known-set-up, known-refused}
+use Rattle.machine.proofs.Acting.{known-formed, known-set-up, known-refused}
 use borrow.Author.Needs.{needs}
 use Rattle.player.proofs.perform_known.Statement.{statement}
 use Rattle.player.proofs.perform_known.Tie as tie

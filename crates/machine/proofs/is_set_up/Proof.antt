@@ -1,10 +1,10 @@
--- `player::is_set_up` meets its contract: one arm for each command. Assumes nothing.
+-- `machine::is_set_up` meets its contract: one arm for each command. Assumes nothing.
 use mathlib.Core.Path.{refl}
 use Rattle.rules.specs.Meaning.{asked}
-use Rattle.player.specs.Known.{isSetUp}
+use Rattle.machine.specs.SetUps.{isSetUp}
 use borrow.Author.Needs.{needs}
-use Rattle.player.proofs.is_set_up.Statement.{statement}
-use Rattle.player.proofs.is_set_up.Tie as tie
+use Rattle.machine.proofs.is_set_up.Statement.{statement}
+use Rattle.machine.proofs.is_set_up.Tie as tie
 
 enum-told : tie.Need-enum-told
 enum-told c = search needs
