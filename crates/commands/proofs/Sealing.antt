@@ -1,16 +1,16 @@
 -- The ways that encrypting and decrypting go (rules C5 and C6). Assumes nothing.
 use Prim.Native.Nat.{ℕ, _+_}
 use mathlib.Core.Path.{_≡_, refl, sym, ap, ap₂, _∙_}
-use mathlib.Core.Bool.{true, false}
+use mathlib.Core.Bool.{Bool, true, false, not}
 use mathlib.Core.List.{[], _∷_}
-use borrow.Author.Tests.{eq-eqb, ne-eqb}
+use borrow.Author.Tests.{eq-eqb, ne-eqb, not-false}
 use Rattle.rules.specs.Choice.{_and_}
 use Rattle.rules.specs.Table.{Table, typeAt, argument, lengthAt}
 use Rattle.rules.specs.Terms.{ciphertext, typeOf, argumentsOf, numbersOf, ciphertextLength, lengthOf, newEntry, addEntry}
 use Rattle.rules.specs.Handles.{entryOf, holdsHandle}
-use Rattle.rules.specs.Outcome.{gives, refused, needRoom, givesHandle}
-use Rattle.rules.specs.Commands.{encryptOf, encrypt, decryptOf, decrypt}
-use Rattle.rules.proofs.Logic.{both}
+use Rattle.rules.specs.Outcome.{Outcome, gives, refused, need, needRoom, givesHandle}
+use Rattle.rules.specs.Commands.{encryptOf, decryptOf}
+use Rattle.rules.proofs.Logic.{both, found-false, found-true}
 use Rattle.rules.proofs.Needs.{need-goes}
 use Rattle.rows.specs.Row.{seven}
 use Rattle.commands.proofs.Ways.{need-fails, gives-new}
@@ -58,22 +58,13 @@ module _ (t : Table) (k c y : ℕ) (key : y ≡ typeAt t k) where
           ∙ need-goes 8 t _ (eq-eqb (argument t c 1) (k + 1) (sym under ∙ p))
           ∙ ap (givesHandle t) (sym q)
 
--- ---- of handles a and b
-module _ (t : Table) (a b : ℕ) where
-  pub encrypt-unheld : holdsHandle t 0 a and holdsHandle t 0 b ≡ false → encrypt t a b ≡ gives (refused 5) t
-  unfolding encrypt
-  encrypt-unheld p = need-fails 5 t _ p
+-- ---- what is done with the entries of handles a and b, where r is whether both are held
+module _ (t : Table) (a b : ℕ) (of : ℕ → ℕ → Outcome) (r : Bool) (known : r ≡ holdsHandle t 0 a and holdsHandle t 0 b) where
+  pub two-unheld : not r ≡ true → need (holdsHandle t 0 a and holdsHandle t 0 b) 5 t (of (entryOf t 0 a) (entryOf t 0 b)) ≡ gives (refused 5) t
+  two-unheld p = need-fails 5 t _ (found-false known p)
 
-  pub encrypt-held : (k l : ℕ) → holdsHandle t 0 a ≡ true → holdsHandle t 0 b ≡ true → entryOf t 0 a ≡ k → entryOf t 0 b ≡ l
-      → encrypt t a b ≡ encryptOf t k l
-  unfolding encrypt
-  encrypt-held k l p q r s = need-goes 5 t _ (both p q) ∙ ap₂ (encryptOf t) r s
-
-  pub decrypt-unheld : holdsHandle t 0 a and holdsHandle t 0 b ≡ false → decrypt t a b ≡ gives (refused 5) t
-  unfolding decrypt
-  decrypt-unheld p = need-fails 5 t _ p
-
-  pub decrypt-held : (k c : ℕ) → holdsHandle t 0 a ≡ true → holdsHandle t 0 b ≡ true → entryOf t 0 a ≡ k → entryOf t 0 b ≡ c
-      → decrypt t a b ≡ decryptOf t k c
-  unfolding decrypt
-  decrypt-held k c p q r s = need-goes 5 t _ (both p q) ∙ ap₂ (decryptOf t) r s
+  pub two-held : (k l : ℕ) → not r ≡ false → (r ≡ true → (entryOf t 0 a ≡ k) × (entryOf t 0 b ≡ l))
+      → need (holdsHandle t 0 a and holdsHandle t 0 b) 5 t (of (entryOf t 0 a) (entryOf t 0 b)) ≡ of k l
+  two-held k l p q =
+      let e = q (not-false r p) in
+      need-goes 5 t _ (found-true known p) ∙ ap₂ of (e .0) (e .1)

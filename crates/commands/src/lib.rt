@@ -4,7 +4,7 @@ ghost use mathlib.Core.Bool.{true};
 ghost use mathlib.Core.List.{_++_, map};
 ghost use Prim.Native.Nat.{_≤_};
 ghost use lib.ListN.{take, replicate};
-ghost use Rattle.rules.specs.Choice.{every, sumOf};
+ghost use Rattle.rules.specs.Choice.{_and_, every, sumOf};
 ghost use Rattle.rules.specs.Table.{lengthAt};
 ghost use Rattle.rules.specs.Handles.{entryOf, holdsHandle};
 ghost use Rattle.rules.specs.Commands.{store, newNonce, mayBeListed, makeListOf, makeList, isPlace, projectOf, project, encryptOf, encrypt, decryptOf, decrypt, valueOf, parse};
@@ -62,6 +62,39 @@ fn look_up(t: &[u16], count: u16, handles: [Handle; 4]) -> LookedUp
     LookedUp {
         held: true,
         entries,
+    }
+}
+
+// Two handles looked up: whether knower 0 holds both of them, and if so their entries.
+struct Two {
+    held: bool,
+    first: Entry,
+    second: Entry,
+}
+
+// The second handle is looked up only where the first is held.
+fn look_up_two(t: &[u16], a: Handle, b: Handle) -> Two
+    ensures { λ r. ⌜ r .held ≡ holdsHandle (now (t .entry)) 0 (a .0) and holdsHandle (now (t .entry)) 0 (b .0) ⌝ }
+    ensures { λ r. ⌜ (r .held ≡ true → (entryOf (now (t .entry)) 0 (a .0) ≡ r .first .0) × (entryOf (now (t .entry)) 0 (b .0) ≡ r .second .0)) ⌝ }
+{
+    let Found::At(first) = handles::entry_of(t, 0, a) else {
+        return Two {
+            held: false,
+            first: Entry(0),
+            second: Entry(0),
+        };
+    };
+    let Found::At(second) = handles::entry_of(t, 0, b) else {
+        return Two {
+            held: false,
+            first: Entry(0),
+            second: Entry(0),
+        };
+    };
+    Two {
+        held: true,
+        first,
+        second,
     }
 }
 
@@ -196,12 +229,12 @@ pub fn encrypt(t: &mut [u16], key: Handle, list: Handle) -> Answer
     ensures { λ r. ⌜ said r ≡ encrypt (now (t .entry)) (key .0) (list .0) .answer ⌝ }
     ensures { λ _. ⌜ now (t .exit) ≡ encrypt (now (t .entry)) (key .0) (list .0) .table ⌝ }
 {
-    let Found::At(k) = handles::entry_of(t, 0, key) else {
+    let two = look_up_two(t, key, list);
+    if !two.held {
         return Answer::Refused(5);
-    };
-    let Found::At(l) = handles::entry_of(t, 0, list) else {
-        return Answer::Refused(5);
-    };
+    }
+    let k = two.first;
+    let l = two.second;
     encrypt_of(t, k, l)
 }
 
@@ -228,12 +261,12 @@ pub fn decrypt(t: &mut [u16], key: Handle, ciphertext: Handle) -> Answer
     ensures { λ r. ⌜ said r ≡ decrypt (now (t .entry)) (key .0) (ciphertext .0) .answer ⌝ }
     ensures { λ _. ⌜ now (t .exit) ≡ decrypt (now (t .entry)) (key .0) (ciphertext .0) .table ⌝ }
 {
-    let Found::At(k) = handles::entry_of(t, 0, key) else {
+    let two = look_up_two(t, key, ciphertext);
+    if !two.held {
         return Answer::Refused(5);
-    };
-    let Found::At(c) = handles::entry_of(t, 0, ciphertext) else {
-        return Answer::Refused(5);
-    };
+    }
+    let k = two.first;
+    let c = two.second;
     decrypt_of(t, k, c)
 }
 
