@@ -8,9 +8,12 @@ use lib.Dec.{ltb}
 use lib.ListN.{take, drop}
 use borrow.Author.Tests.{lt-ltb}
 use Rattle.rules.specs.Choice.{_and_, _or_, _implies_, if_then_else_, every, sumOf, isZero}
-use Rattle.rules.specs.Table.{Table, countAt, argument, arguments}
+use Rattle.rules.specs.Table.{Table, arguments}
 use Rattle.rules.specs.Terms.{elements}
 use Rattle.rules.specs.WellFormed.{unusedAreZero}
+use Rattle.rules.proofs.Logic.{and-true}
+use Rattle.entries_fit.specs.declared.Row.{Row}
+use Rattle.entries_fit.specs.Reading.{IsRow}
 
 -- four or more are over each place, and nothing is left past the fourth
 over : (i n : ℕ) → i < 4 → ltb i (suc (suc (suc (suc n)))) ≡ true
@@ -63,22 +66,28 @@ module _ (a b c d : ℕ) where
   sum-taken f (suc (suc (suc (suc n)))) =
       rw (over 0 n (omega arith), over 1 n (omega arith), over 2 n (omega arith), over 3 n (omega arith), none-taken n) (omega arith)
 
--- ---- of an entry
-module _ (t : Table) (e : ℕ) where
+-- ---- of an entry whose numbers are those of a row
+module _ {t : Table} {e : ℕ} {row : Row} (s : IsRow t e row) where
+  arguments-by-row : arguments t e ≡ four (row .first) (row .second) (row .third) (row .fourth)
+  unfolding arguments
+  arguments-by-row = rw (s .firsts, s .seconds, s .thirds, s .fourths) refl
+
+  elements-by-row : elements t e ≡ take (row .count) (four (row .first) (row .second) (row .third) (row .fourth))
+  unfolding elements
+  elements-by-row = rw (arguments-by-row, s .counts) refl
+
   pub unused-are : unusedAreZero t e
-      ≡ (ltb 0 (countAt t e) or isZero (argument t e 1)) and (ltb 1 (countAt t e) or isZero (argument t e 2))
-      and (ltb 2 (countAt t e) or isZero (argument t e 3)) and (ltb 3 (countAt t e) or isZero (argument t e 4)) and true
-  unfolding unusedAreZero arguments
-  unused-are = every-left _ _ _ _ isZero (countAt t e)
+      ≡ (ltb 0 (row .count) or isZero (row .first)) and (ltb 1 (row .count) or isZero (row .second))
+      and (ltb 2 (row .count) or isZero (row .third)) and (ltb 3 (row .count) or isZero (row .fourth))
+  unfolding unusedAreZero
+  unused-are = rw (arguments-by-row, ← s .counts, every-left, and-true) refl
 
   pub elements-are : (f : ℕ → Bool) → every f (elements t e)
-      ≡ (ltb 0 (countAt t e) implies f (argument t e 1)) and (ltb 1 (countAt t e) implies f (argument t e 2))
-      and (ltb 2 (countAt t e) implies f (argument t e 3)) and (ltb 3 (countAt t e) implies f (argument t e 4)) and true
-  unfolding elements arguments
-  elements-are f = every-taken _ _ _ _ f (countAt t e)
+      ≡ (ltb 0 (row .count) implies f (row .first)) and (ltb 1 (row .count) implies f (row .second))
+      and (ltb 2 (row .count) implies f (row .third)) and (ltb 3 (row .count) implies f (row .fourth))
+  elements-are f = rw (elements-by-row, every-taken, and-true) refl
 
   pub lengths-are : (f : ℕ → ℕ) → sumOf f (elements t e)
-      ≡ (if ltb 0 (countAt t e) then f (argument t e 1) else 0) + (if ltb 1 (countAt t e) then f (argument t e 2) else 0)
-      + (if ltb 2 (countAt t e) then f (argument t e 3) else 0) + (if ltb 3 (countAt t e) then f (argument t e 4) else 0)
-  unfolding elements arguments
-  lengths-are f = sum-taken _ _ _ _ f (countAt t e)
+      ≡ (if ltb 0 (row .count) then f (row .first) else 0) + (if ltb 1 (row .count) then f (row .second) else 0)
+      + (if ltb 2 (row .count) then f (row .third) else 0) + (if ltb 3 (row .count) then f (row .fourth) else 0)
+  lengths-are f = rw (elements-by-row, sum-taken) refl

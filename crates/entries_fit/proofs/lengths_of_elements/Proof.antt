@@ -40,23 +40,17 @@ add-result-3 : tie.Need-add-result-3
 add-result-3 c = search needs
 
 returns : tie.Need-returns
-returns c =
-    let row = c .before .before .before .before .before .pre in (
-      rw (
-        lengths-are,
-        c .before .before .before .element-length .ensures,
-        c .before .before .element-length2 .ensures,
-        c .before .element-length3 .ensures,
-        c .element-length4 .ensures,
-        ← row .counts,
-        ← row .firsts,
-        ← row .seconds,
-        ← row .thirds,
-        ← row .fourths,
-      )
-          refl,
-      omega arith,
-    )
+returns c = (
+  rw (
+    lengths-are (c .before .before .before .before .before .pre),
+    c .before .before .before .element-length .ensures,
+    c .before .before .element-length2 .ensures,
+    c .before .element-length3 .ensures,
+    c .element-length4 .ensures,
+  )
+      refl,
+  omega arith,
+)
 
 pub lengths-of-elements-spec : {M : Type 1} → statement M
 lengths-of-elements-spec =
