@@ -11,9 +11,9 @@ use Rattle.rules.specs.Table.{Table, used}
 use Rattle.rules.specs.SetUp.{setUpFits, setUpTable}
 use Rattle.rules.specs.WellFormed.{wellFormed}
 use Rattle.rules.specs.Outcome.{Outcome, gives, need, ready, refused}
-use Rattle.rules.specs.Machine.{Request, Record, SetUp, Asks, step, setUp, perform, untested}
+use Rattle.rules.specs.Machine.{Request, Record, SetUp, Asks, step, setUp, perform}
 use Rattle.rules.specs.Session.{standsRight}
-use Rattle.rules.proofs.Keeps.{not-formed, is-formed}
+use Rattle.rules.proofs.Keeps.{not-formed}
 use Rattle.rules.proofs.Stays.{step-formed}
 use Rattle.rules.proofs.SetUpFormed.{set-up-formed}
 use Rattle.machine.specs.SetUps.{isSetUp}
