@@ -2,7 +2,7 @@
 ghost use mathlib.Core.Path.{_≡_};
 ghost use Prim.Native.Nat.{_+_, _*_, _<_, _≤_};
 ghost use lib.Dec.{ltb};
-ghost use Rattle.rules.specs.Choice.{_and_, _or_, _implies_, if_then_else_, all, every, sumOf, isZero};
+ghost use Rattle.rules.specs.Choice.{_or_, _implies_, if_then_else_, all, every, sumOf, isZero};
 ghost use Rattle.rules.specs.Table.{size, rowWidth, participants, used, lengthAt};
 ghost use Rattle.rules.specs.Terms.{elements, termAt, lengthOf};
 ghost use Rattle.rules.specs.WellFormed.{isLaterType, typeFits, countOf, countFits, unusedAreZero, nonceFits, isEarlier, mayBeElement};
@@ -114,13 +114,6 @@ fn count_fits(t: &[u16], e: Entry, row: Row) -> bool
     row.count <= 4
 }
 
-// The tests of a row's four arguments all pass. All are made before they are joined: on a well-formed table none fails.
-fn all_four(a: bool, b: bool, c: bool, d: bool) -> bool
-    ensures { λ r. ⌜ r ≡ a and b and c and d ⌝ }
-{
-    a & b & c & d
-}
-
 // The argument x, which has i before it, is zero if the count n leaves it out.
 fn unused_is_zero(n: u16, i: u16, x: u16) -> bool
     ensures { λ r. ⌜ r ≡ ltb i n or isZero x ⌝ }
@@ -136,11 +129,16 @@ fn unused_are_zero(t: &[u16], e: Entry, row: Row) -> bool
     requires { ⌜ IsRow (now t) (e .0) row ⌝ }
     ensures { λ r. ⌜ r ≡ unusedAreZero (now (t .entry)) (e .0) ⌝ }
 {
-    let first = unused_is_zero(row.count, 0, row.first);
-    let second = unused_is_zero(row.count, 1, row.second);
-    let third = unused_is_zero(row.count, 2, row.third);
-    let fourth = unused_is_zero(row.count, 3, row.fourth);
-    all_four(first, second, third, fourth)
+    if !unused_is_zero(row.count, 0, row.first) {
+        return false;
+    }
+    if !unused_is_zero(row.count, 1, row.second) {
+        return false;
+    }
+    if !unused_is_zero(row.count, 2, row.third) {
+        return false;
+    }
+    unused_is_zero(row.count, 3, row.fourth)
 }
 
 // A nonce's owner and partner are at most n.
@@ -192,11 +190,16 @@ fn elements_fit(t: &[u16], e: Entry, row: Row) -> bool
     requires { ⌜ IsRow (now t) (e .0) row ⌝ }
     ensures { λ r. ⌜ r ≡ every (mayBeElement (now (t .entry)) (e .0)) (elements (now (t .entry)) (e .0)) ⌝ }
 {
-    let first = element_fits(t, e, row.count, 0, Entry(row.first));
-    let second = element_fits(t, e, row.count, 1, Entry(row.second));
-    let third = element_fits(t, e, row.count, 2, Entry(row.third));
-    let fourth = element_fits(t, e, row.count, 3, Entry(row.fourth));
-    all_four(first, second, third, fourth)
+    if !element_fits(t, e, row.count, 0, Entry(row.first)) {
+        return false;
+    }
+    if !element_fits(t, e, row.count, 1, Entry(row.second)) {
+        return false;
+    }
+    if !element_fits(t, e, row.count, 2, Entry(row.third)) {
+        return false;
+    }
+    element_fits(t, e, row.count, 3, Entry(row.fourth))
 }
 
 fn list_fits(t: &[u16], e: Entry, row: Row) -> bool
