@@ -26,4 +26,5 @@ decimal_small (suc n) h = rw (lt-ltb (suc n) 10 h)
 
 pub decimal_more : (n : ℕ) → 10 ≤ n → decimal n ≡ decimal (n / 10) ++ ((48 + n % 10) ∷ [])
 unfolding decimal digits
+decimal_more zero h = absurd (omega arith)
 decimal_more (suc n) h = rw (le-ltb (suc n) 10 h, digits_same n (suc n / 10) (suc n / 10) (omega arith) (omega arith))

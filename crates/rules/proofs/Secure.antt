@@ -46,7 +46,7 @@ secure_step {H} {t} {h} c r = record {
 pub secure_run : {H : ℕ → Bool} {t : Table} {h : List Turn} → Secure H t h → (rs : List Request) → Secure H (table_after t (run rs t)) (h ++ turns rs t)
 unfolding run table_after turns_by
 secure_run {H} {t} {h} c [] = rw append-nil c
-secure_run {H} {t} {h} c (r ∷ rs) = rw append_assoc at (secure_run (secure_step c r) rs)
+secure_run {H} {t} {h} c (r ∷ rs) = rw append_assoc at (secure_run {t = (step r t).table} (secure_step c r) rs)
 
 -- ---- a table whose entries are the keys alone
 module _ (t : Table) (sh : Shaped t) (keys : used t ≡ 2 * participants t) where

@@ -151,7 +151,7 @@ low_grant {t} k e h =
 low_each : {t : Table} (k : ℕ) (es : List ℕ) → Low t → Low (grant_each t k es)
 unfolding grant_each
 low_each k [] h = h
-low_each k (e ∷ es) h = low_each k es (low_grant k e h)
+low_each {t = t} k (e ∷ es) h = low_each {t = grant t k e} k es (low_grant k e h)
 
 -- a term of at most four arguments
 record Fits (x : Term) : Type 0 where
