@@ -28,7 +28,7 @@ use Rattle.rules.proofs.Lines.{numbered}
 use Rattle.rules.proofs.Sessions.{ready_line}
 use Rattle.rules.proofs.Bytes.{lines_within}
 use Rattle.bench_calls.proofs.Unique as unique
-use Rattle.bench_calls.proofs as own
+use Rattle.bench_calls.specs.contracts as own
 
 -- ---- what a caller can pass: bytes, in runs that memory has room for
 unfoldable pub are_bytes : List ℕ → Bool

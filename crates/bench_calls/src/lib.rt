@@ -1,4 +1,6 @@
 // The calls of a C host: a whole session, and one record on the host's own table (rules K1 and K2).
+#![tactic(auto)]
+
 ghost use Rattle.std.specs.Prelude.{◌≡◌, ◌++◌, length, replicate, drop, ◌≤◌};
 ghost use Rattle.rules.specs.Player.{played, most_bytes};
 ghost use Rattle.rules.specs.Calls.{play_into, perform_into, four_numbers};

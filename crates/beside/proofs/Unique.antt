@@ -2,7 +2,7 @@
 use mathlib.Core.Path.{refl}
 use mathlib.Core.List.{[]}
 use Rattle.tight.specs.Tight.{Tight, law, same}
-use Rattle.beside.proofs as own
+use Rattle.beside.specs.contracts as own
 
-pub list_is_asked : Tight own.list_is_asked.ended (λ M. own.list_is_asked.clauses)
+pub list_is_asked : Tight own.list_is_asked.ended (λ M 𝓤. own.list_is_asked.clauses)
 list_is_asked = law _ _ [] (λ κs a z z' l l' p q. (same p q, refl))

@@ -1,4 +1,6 @@
 // The four handles that stand beside a command, and when a list can be asked for (rule C3).
+#![tactic(auto)]
+
 ghost use Rattle.std.specs.Prelude.{◌≡◌};
 ghost use Rattle.rules.specs.Commands.{list_is_asked};
 ghost use Rattle.beside.specs.Beside.{numbers_beside};

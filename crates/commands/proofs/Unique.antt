@@ -5,25 +5,25 @@ use mathlib.Core.List.{[], ◌∷◌}
 use Rattle.tight.specs.Tight.{Tight, law, same_by}
 use Rattle.rules.specs.Meaning.{said}
 use Rattle.rules.proofs.Meaning.{unsaid, said_back, told}
-use Rattle.commands.proofs as own
+use Rattle.commands.specs.contracts as own
 
-pub store : Tight own.store.ended (λ M. own.store.clauses)
+pub store : Tight own.store.ended (λ M 𝓤. own.store.clauses)
 store = law _ _ (_ ∷ []) (λ κs a z z' l l' p q. told z z' l.0 l'.0 l.1 p q)
 
-pub nonce : Tight own.nonce.ended (λ M. own.nonce.clauses)
+pub nonce : Tight own.nonce.ended (λ M 𝓤. own.nonce.clauses)
 nonce = law _ _ (_ ∷ []) (λ κs a z z' l l' p q. told z z' l.0 l'.0 l.1 p q)
 
-pub list : Tight own.list.ended (λ M. own.list.clauses)
+pub list : Tight own.list.ended (λ M 𝓤. own.list.clauses)
 list = law _ _ (_ ∷ []) (λ κs a z z' l l' p q. told z z' l.0 l'.0 l.1 p q)
 
-pub project : Tight own.project.ended (λ M. own.project.clauses)
+pub project : Tight own.project.ended (λ M 𝓤. own.project.clauses)
 project = law _ _ (_ ∷ []) (λ κs a z z' l l' p q. told z z' l.0 l'.0 l.1 p q)
 
-pub encrypt : Tight own.encrypt.ended (λ M. own.encrypt.clauses)
+pub encrypt : Tight own.encrypt.ended (λ M 𝓤. own.encrypt.clauses)
 encrypt = law _ _ (_ ∷ []) (λ κs a z z' l l' p q. told z z' l.0 l'.0 l.1 p q)
 
-pub decrypt : Tight own.decrypt.ended (λ M. own.decrypt.clauses)
+pub decrypt : Tight own.decrypt.ended (λ M 𝓤. own.decrypt.clauses)
 decrypt = law _ _ (_ ∷ []) (λ κs a z z' l l' p q. told z z' l.0 l'.0 l.1 p q)
 
-pub parse : Tight own.parse.ended (λ M. own.parse.clauses)
+pub parse : Tight own.parse.ended (λ M 𝓤. own.parse.clauses)
 parse = law _ _ [] (λ κs a z z' l l' p q. (same_by said unsaid said_back p q, refl))

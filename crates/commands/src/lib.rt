@@ -1,4 +1,6 @@
 // The adversary's commands, on any run of numbers: whether the table is well formed isn't tested here (rules C1 to C7).
+#![tactic(auto)]
+
 ghost use Rattle.std.specs.Prelude.{◌≡◌, true, ◌++◌, map, ◌≤◌, take, replicate};
 ghost use Rattle.rules.specs.Choice.{◌and◌, every, sum_of};
 ghost use Rattle.rules.specs.Table.{length_at};
@@ -30,7 +32,7 @@ pub fn nonce(t: &mut [u16]) -> Answer
 }
 
 // Handles looked up: whether knower 0 holds each of them, and if so their entries, with zeros after them.
-#[derive(Drop)]
+#[derive(Clone, Copy)]
 struct LookedUp {
     held: bool,
     entries: [Entry; 4],
@@ -61,7 +63,7 @@ fn look_up(t: &[u16], count: u16, handles: [Handle; 4]) -> LookedUp
 }
 
 // Two handles looked up: whether knower 0 holds both of them, and if so their entries.
-#[derive(Drop)]
+#[derive(Clone, Copy)]
 struct Two {
     held: bool,
     first: Entry,

@@ -1,4 +1,6 @@
 // What every used entry of a well-formed table has: type, count, arguments and length that fit each other (rules W5 to W10).
+#![tactic(auto)]
+
 ghost use Rattle.std.specs.Prelude.{◌≡◌, ◌+◌, ◌*◌, ◌<◌, ◌≤◌, ltb};
 ghost use Rattle.rules.specs.Choice.{◌or◌, ◌implies◌, if◌then◌else◌, all, every, sum_of, is_zero};
 ghost use Rattle.rules.specs.Table.{size, row_width, participants, used, length_at};
@@ -10,7 +12,7 @@ ghost use Rattle.entries_fit.specs.Reading.{IsRow};
 use rules::Entry;
 
 // The seven numbers of an entry. They are read once; each clause takes them from here.
-#[derive(Drop)]
+#[derive(Clone, Copy)]
 struct Row {
     kind: u16,
     count: u16,

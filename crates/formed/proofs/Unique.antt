@@ -2,7 +2,7 @@
 use mathlib.Core.Path.{refl}
 use mathlib.Core.List.{[]}
 use Rattle.tight.specs.Tight.{Tight, law, same}
-use Rattle.formed.proofs as own
+use Rattle.formed.specs.contracts as own
 
-pub well_formed : Tight own.well_formed.ended (λ M. own.well_formed.clauses)
+pub well_formed : Tight own.well_formed.ended (λ M 𝓤. own.well_formed.clauses)
 well_formed = law _ _ [] (λ κs a z z' l l' p q. (same p q, refl))

@@ -1,4 +1,6 @@
 // Handles: who holds an entry, granting, and the one way from a handle to its entry (rules T1 to T3, H1 to H3).
+#![tactic(auto)]
+
 ghost use Rattle.std.specs.Prelude.{◌≡◌};
 ghost use Rattle.rules.specs.Table.{most, raised, next_handle, set_next_handle, handle, set_handle};
 ghost use Rattle.rules.specs.Handles.{holds, grant, entry_of};

@@ -32,7 +32,7 @@ use Rattle.rules.proofs.Answers.{answer_said}
 use Rattle.rules.proofs.Ready.{ready_counts}
 use Rattle.beside.specs.Beside.{numbers_beside}
 use Rattle.machine.proofs.Unique as unique
-use Rattle.machine.proofs as own
+use Rattle.machine.specs.contracts as own
 
 -- ---- what a caller can pass: numbers of 16 bits, four handles, and a run that memory has room for
 unfoldable pub command_numbers : Command → List ℕ

@@ -1,5 +1,7 @@
 // The machine: set-up and any command, on any run of numbers (rules M1 to M3). `perform`, and the nine commands by name, test the table
 // first; `act`, for a table that its owner knows to be well formed, doesn't.
+#![tactic(auto)]
+
 ghost use Rattle.std.specs.Prelude.{◌≡◌, List};
 ghost use Rattle.rules.specs.Machine.{step, perform, untested, Start, Deliver, Store, Nonce, MakeList, Project, Encrypt, Decrypt, Parse};
 ghost use Rattle.rules.specs.Meaning.{said, asked, beside_at};

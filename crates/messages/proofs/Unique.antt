@@ -5,7 +5,7 @@ use mathlib.Core.List.{[]}
 use Rattle.tight.specs.Tight.{Tight, law, same_by}
 use Rattle.messages.specs.Reading.{read_as}
 use Rattle.messages.proofs.Read.{unread, read_back}
-use Rattle.messages.proofs as own
+use Rattle.messages.specs.contracts as own
 
-pub read_message : Tight own.read_message.ended (λ M. own.read_message.clauses)
+pub read_message : Tight own.read_message.ended (λ M 𝓤. own.read_message.clauses)
 read_message = law _ _ [] (λ κs a z z' l l' p q. (same_by read_as unread read_back p q, refl))

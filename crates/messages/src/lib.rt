@@ -1,4 +1,6 @@
 // How a delivered list is read: what an honest participant takes it for (rule N5).
+#![tactic(auto)]
+
 ghost use Rattle.std.specs.Prelude.{◌≡◌};
 ghost use Rattle.rules.specs.Terms.{is_nonce_of};
 ghost use Rattle.rules.specs.Steps.{read_one, read_two, read_more, read_list, is_for, read_message};
@@ -7,7 +9,7 @@ ghost use Rattle.messages.specs.Reading.{read_as};
 use rules::Entry;
 
 // A message that an honest participant takes, with what it answers with.
-#[derive(Drop)]
+#[derive(Clone, Copy)]
 pub enum Message {
     First(Entry),
     Second(Entry),
@@ -15,7 +17,7 @@ pub enum Message {
 }
 
 // What a delivered list is to the one it is delivered to.
-#[derive(Drop)]
+#[derive(Clone, Copy)]
 pub enum Opened {
     Taken(Message),
     Nothing,

@@ -1,4 +1,6 @@
 // Who is a participant, and who is honest (rule T4).
+#![tactic(auto)]
+
 ghost use Rattle.std.specs.Prelude.{◌≡◌};
 ghost use Rattle.rules.specs.Table.{in_mask, is_participant, honest};
 

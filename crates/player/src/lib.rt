@@ -1,4 +1,6 @@
 // Plays a session file: its records in turn on the player's own table, a line for each into a lent output (rules F1, F5 and P4).
+#![tactic(auto)]
+
 ghost use Rattle.std.specs.Prelude.{◌≡◌, false, List, ◌≤◌, length};
 ghost use Rattle.rules.specs.WellFormed.{well_formed};
 ghost use Rattle.rules.specs.Machine.{perform};

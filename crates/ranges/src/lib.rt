@@ -1,4 +1,6 @@
 // What a set-up takes and a head may hold: the ranges of participants, mask and capacity, and who is to hold the public keys (rules S1 and S2).
+#![tactic(auto)]
+
 ghost use Rattle.std.specs.Prelude.{◌≡◌};
 ghost use Rattle.rules.specs.Table.{this_version, most_of};
 ghost use Rattle.rules.specs.SetUp.{participants_fit, mask_fits, capacity_fits, holds_public_key};

@@ -1,4 +1,6 @@
 // What every command that makes or gives entries shares: the room for new entries, and an entry given to knower 0 (rules R2 and R3).
+#![tactic(auto)]
+
 ghost use Rattle.std.specs.Prelude.{◌≡◌, [], ◌∷◌, leb, ◌-◌};
 ghost use Rattle.rules.specs.Table.{capacity, used};
 ghost use Rattle.rules.specs.Terms.{new_entry, add_entry};

@@ -1,4 +1,6 @@
 // The lent run as rows of numbers: row 0 is the head, row e is entry e (rules T1 to T3). Reads past the end give 0, writes there do nothing.
+#![tactic(auto)]
+
 ghost use Rattle.std.specs.Prelude.{◌≡◌, ◌++◌, ◌+◌, ◌*◌, ◌<◌, ◌≤◌, eqb, length, get_or, replicate};
 ghost use Rattle.rules.specs.Choice.{◌and◌};
 ghost use Rattle.rules.specs.Table.{most, row_width, word, put, with_row, participants, mask, capacity, used, type_at, count_at, argument, length_at};

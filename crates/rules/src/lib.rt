@@ -1,22 +1,23 @@
 // The types that the code's crates share. What each value means in the machine's own numbers is said in specs/Meaning.antt.
+#![tactic(auto)]
 
 // The number of an entry of the table. Entries count from 1.
-#[derive(Drop)]
+#[derive(Clone, Copy)]
 pub struct Entry(pub u16);
 
 // A knower's name for an entry. Only a look-up in the table turns one into an Entry.
-#[derive(Drop)]
+#[derive(Clone, Copy)]
 pub struct Handle(pub u16);
 
 // What a search of the table gives.
-#[derive(Drop)]
+#[derive(Clone, Copy)]
 pub enum Found {
     At(Entry),
     Nothing,
 }
 
 // The answer to a set-up or a command.
-#[derive(Drop)]
+#[derive(Clone, Copy)]
 pub enum Answer {
     Ready(u16),
     Sent(u16, u16, Handle),
@@ -28,7 +29,7 @@ pub enum Answer {
 }
 
 // Set-up and the nine commands. A list has its count here and its four handles beside it, since an enum holds no array.
-#[derive(Drop)]
+#[derive(Clone, Copy)]
 pub enum Command {
     SetUp(u16, u16, u16),
     Start(u16, u16),

@@ -11,7 +11,7 @@ use Rattle.session.specs.declared.Step.TheVariants.{Record, End, Malformed}
 use Rattle.session.specs.declared.Written.{Written}
 use Rattle.session.specs.declared.Written.TheVariants.{Bytes, Refused}
 use Rattle.session.specs.Session.{read_as, written_as}
-use Rattle.session.proofs as own
+use Rattle.session.specs.contracts as own
 
 -- the step that was read
 abbrev unread : Reading → Step
@@ -37,7 +37,7 @@ unfolding written_as
 written_back (Bytes n) = refl
 written_back (Refused n) = refl
 
-pub read_record : Tight own.read_record.ended (λ M. own.read_record.clauses)
+pub read_record : Tight own.read_record.ended (λ M 𝓤. own.read_record.clauses)
 read_record =
     law _ _ (_ ∷ _ ∷ [])
     (λ κs a z z' l l' p q.
@@ -45,6 +45,6 @@ read_record =
     let h : z.handles ≡ z'.handles = same p.1.0 q.1.0 in
     (λ i. record { step = s i; handles = h i }, refl))
 
-pub write_record : Tight own.write_record.ended (λ M. own.write_record.clauses)
+pub write_record : Tight own.write_record.ended (λ M 𝓤. own.write_record.clauses)
 write_record =
     law _ _ (_ ∷ []) (λ κs a z z' l l' p q. (same_by written_as unwritten written_back p.0 q.0, ap (λ t. (l.0, (l.1.0, (t, l.1.1.1)))) (same p.1 q.1)))

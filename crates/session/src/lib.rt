@@ -1,4 +1,6 @@
 // Records of the session file, read at a position and written (rules F2 to F4, F6).
+#![tactic(auto)]
+
 ghost use Rattle.std.specs.Prelude.{◌≡◌, true, List, ◌+◌, ◌*◌, ◌≤◌, get_or, length, take};
 ghost use Rattle.std.proofs.lemmas.List.Edits.{sets};
 ghost use Rattle.rules.specs.Session.{number, body_lengths, is_within, body_number, read_body, read_record, kind_of, values_of, two_bytes, bytes_of, has_record, write_record};
@@ -9,14 +11,14 @@ ghost use Rattle.rules.specs.declared.Handle.{Handle};
 use rules::{Command, Handle};
 
 // The shortest and the longest body of a kind.
-#[derive(Drop)]
+#[derive(Clone, Copy)]
 enum Lengths {
     Between(u16, u16),
     Unknown,
 }
 
 // What stands at a position: a record and the position after it, the file's end, or what is no record.
-#[derive(Drop)]
+#[derive(Clone, Copy)]
 pub enum Step {
     Record(Command, usize),
     End,
@@ -24,14 +26,14 @@ pub enum Step {
 }
 
 // What was read. An enum holds no array, so a list's four handles are beside it; four zeros beside anything else.
-#[derive(Drop)]
+#[derive(Clone, Copy)]
 pub struct Read {
     pub step: Step,
     pub handles: [Handle; 4],
 }
 
 // The number of bytes written, or a refusal.
-#[derive(Drop)]
+#[derive(Clone, Copy)]
 pub enum Written {
     Bytes(usize),
     Refused(u16),

@@ -2,7 +2,7 @@
 use mathlib.Core.List.{[], ◌∷◌}
 use Rattle.tight.specs.Tight.{Tight, law}
 use Rattle.rules.proofs.Meaning.{told}
-use Rattle.set_up.proofs as own
+use Rattle.set_up.specs.contracts as own
 
-pub set_up : Tight own.set_up.ended (λ M. own.set_up.clauses)
+pub set_up : Tight own.set_up.ended (λ M 𝓤. own.set_up.clauses)
 set_up = law _ _ (_ ∷ []) (λ κs a z z' l l' p q. told z z' l.0 l'.0 l.1 p q)

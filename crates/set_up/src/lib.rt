@@ -1,4 +1,6 @@
 // Set-up: what it takes, the empty table, and the participants' keys with their grants (rules S1 to S3 and M3).
+#![tactic(auto)]
+
 ghost use Rattle.std.specs.Prelude.{◌≡◌, ◌++◌, ◌+◌, ◌≤◌, replicate, drop};
 ghost use Rattle.std.proofs.lemmas.List.Edits.{sets};
 ghost use Rattle.rules.specs.Table.{size, this_version, most_of, most, words_for};

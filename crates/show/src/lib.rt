@@ -1,4 +1,6 @@
 // Printing for the programs that show a table: numbers, rows, holdings and the lines of answers, on standard output.
+#![tactic(auto)]
+
 use libc::STDOUT_FILENO;
 use rules::{Answer, Entry, Found, Handle};
 

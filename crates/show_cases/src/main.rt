@@ -1,5 +1,7 @@
 // Plays the paper's cases. Each is a session file: its records are performed one after another, and printed are the player's line of each,
 // then the used entries and what every knower holds. Case 10 is a file that has no records, so the player plays it.
+#![tactic(auto)]
+
 use session::Step;
 
 // The lines of a file's records, which follow its version byte. A record has at least 3 bytes, so there are fewer of them than of bytes.

@@ -1,4 +1,6 @@
 // Shows what set-up does: case 1's holdings, every word of a small table on a run of nines, and a refusal.
+#![tactic(auto)]
+
 fn case_one() {
     let mut t = [9u16; 1040];
     show::line(1, set_up::set_up(&mut t, 3, 3, 64));

@@ -1,6 +1,8 @@
 // The writer as a program, to be compared with another: each request on standard input, twelve bytes, becomes eighteen bytes on standard
 // output. A request is a kind byte, a list's count, four numbers, the high byte first, and how many bytes are lent, 0 to 16. The answer is
 // an output of sixteen bytes of which so many were lent, then 0 and how many were written, or 1 and the refusal.
+#![tactic(auto)]
+
 use libc::{STDIN_FILENO, STDOUT_FILENO};
 use rules::{Command, Handle};
 use session::Written;

@@ -1,4 +1,6 @@
 // The honest steps, start and deliver: who may act, what is sent, who is granted what (rules N1 to N4, N6 and N7).
+#![tactic(auto)]
+
 ghost use Rattle.std.specs.Prelude.{◌≡◌, [], ◌∷◌, ◌++◌, ◌+◌, ◌-◌, ◌≤◌, ◌<◌, leb, length};
 ghost use Rattle.rules.specs.Choice.{every};
 ghost use Rattle.rules.specs.Table.{capacity, used};
@@ -33,7 +35,7 @@ fn may_act(t: &[u16], acting: u16, peer: u16) -> bool
 
 // What a participant knows by now and is to be granted, in this order: six entries at most of a list that it opened, and the five of
 // its own message.
-#[derive(Drop)]
+#[derive(Clone, Copy)]
 struct Known {
     entries: [Entry; 11],
     count: usize,

@@ -1,4 +1,6 @@
 // Terms: a new entry, and the lowest entry that is a given datum or list (rules T9 and T10).
+#![tactic(auto)]
+
 ghost use Rattle.std.specs.Prelude.{◌≡◌, ◌<◌, min, take};
 ghost use Rattle.rules.specs.Terms.{new_entry, add_entry, is_datum_of, find_datum, find_list};
 ghost use Rattle.rules.specs.Meaning.{found_at, or_nothing};

@@ -3,16 +3,16 @@ use mathlib.Core.Path.{ap}
 use mathlib.Core.List.{[]}
 use Rattle.tight.specs.Tight.{Tight, law}
 use Rattle.text.proofs.Putting.{put_new, put_next}
-use Rattle.text.proofs as own
+use Rattle.text.specs.contracts as own
 
-pub byte : Tight own.byte.ended (λ M. own.byte.clauses)
+pub byte : Tight own.byte.ended (λ M 𝓤. own.byte.clauses)
 byte = law _ _ [] (λ κs a z z' l l' p q. (put_next p q, ap (λ t. (t, l.1)) (put_new p q)))
 
-pub word : Tight own.word.ended (λ M. own.word.clauses)
+pub word : Tight own.word.ended (λ M 𝓤. own.word.clauses)
 word = law _ _ [] (λ κs a z z' l l' p q. (put_next p q, ap (λ t. (t, l.1)) (put_new p q)))
 
-pub number : Tight own.number.ended (λ M. own.number.clauses)
+pub number : Tight own.number.ended (λ M 𝓤. own.number.clauses)
 number = law _ _ [] (λ κs a z z' l l' p q. (put_next p q, ap (λ t. (t, l.1)) (put_new p q)))
 
-pub line : Tight own.line.ended (λ M. own.line.clauses)
+pub line : Tight own.line.ended (λ M 𝓤. own.line.clauses)
 line = law _ _ [] (λ κs a z z' l l' p q. (put_next p q, ap (λ t. (t, l.1)) (put_new p q)))

@@ -1,5 +1,7 @@
 // Text into a lent output, with a bound: numbers in decimal (rule P1) and the player's lines (rules P2 and P3). What falls past the end is left out,
 // and the place given back is then one past the length.
+#![tactic(auto)]
+
 ghost use Rattle.std.specs.Prelude.{◌≡◌, [], ◌∷◌, ◌+◌, ◌/◌, ◌%◌, ◌≤◌, min, length};
 ghost use Rattle.rules.specs.Player.{space, digit, decimal, spaced, line_of};
 ghost use Rattle.rules.specs.Meaning.{said};
