@@ -1,0 +1,5 @@
+-- `text::number` ends: the higher digits are a lower number.
+use Rattle.text.proofs.+number.Given as goal
+
+abbrev pub decreases-number : goal.decreases-number
+decreases-number l = l.n

@@ -1,0 +1,7 @@
+-- `text::value` meets its contract: the space, then the number.
+use borrow.Author.Rules.{rules}
+use Rattle.text.proofs.Putting.{value_put}
+use Rattle.text.proofs.value.Goals as goal
+
+pub returns : goal.returns
+returns c = value_put _ c.byte-after.ensures c.number.ensures
