@@ -3,8 +3,6 @@ use Prim.Native.Nat.{ℕ}
 use mathlib.Core.Path.{◌≡◌, refl}
 use mathlib.Core.Bool.{Bool, true, false}
 use mathlib.Core.List.{List, [], ◌∷◌}
-use types.Run.{OneOf}
-use denote.Enum.Declared.{tag_of}
 use borrow.Author.Tests.{eq-eqb, ne_eqb}
 use Rattle.rules.specs.Table.{Table}
 use Rattle.rules.specs.Terms.{Term, numbers_of, length_of, new_entry, add_entry, create}
@@ -14,8 +12,7 @@ use Rattle.rules.specs.Commands.{give_new, give_found_or_new}
 use Rattle.rules.specs.Meaning.{found_at, or_nothing}
 use Rattle.rules.specs.declared.Entry.{Entry}
 use Rattle.rules.specs.declared.Found.{Found}
-use Rattle.rules.specs.declared.Found.TheVariants.{At}
-use Rattle.rules.specs.contracts.Found.{the_type}
+use Rattle.rules.specs.declared.Found.TheVariants.{At, Nothing}
 use Rattle.rows.proofs.Search.{found, nothing}
 
 pub need_fails : {b : Bool} (n : ℕ) (t : Table) (rest : Outcome) → b ≡ false → need b n t rest ≡ gives (refused n) t
@@ -31,7 +28,7 @@ module _ (t : Table) (h : ℕ) (f : Found) (p : found_at f ≡ or_nothing (entry
   pub held_at : (e : Entry) → f ≡ At e → entry_of t 0 h ≡ e.0
   held_at e q = (found _ f e p q).1
 
-  pub unheld : OneOf (1 ∷ []) (tag_of the_type f) → holds_handle t 0 h ≡ false
+  pub unheld : f ≡ Nothing → holds_handle t 0 h ≡ false
   unfolding holds_handle
   unheld q = rw (eq-eqb _ 0 (nothing _ f p q)) refl
 

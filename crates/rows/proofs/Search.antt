@@ -9,8 +9,6 @@ use mathlib.Core.Path.{◌≡◌, refl, sym, ap, ◌∙◌}
 use mathlib.Core.Logic.{◌≢◌}
 use mathlib.Core.Bool.{Bool, true, false}
 use mathlib.Core.List.{[], ◌∷◌}
-use types.Run.{OneOf}
-use denote.Enum.Declared.{tag_of}
 use lib.Dec.{eqb, ltb}
 use borrow.Author.Tests.{ltb-true, lt-ltb, eq-eqb, ne_eqb}
 use lib.ListN.{get_or}
@@ -20,7 +18,6 @@ use Rattle.rules.specs.Meaning.{found_at, or_nothing}
 use Rattle.rules.specs.declared.Entry.{Entry}
 use Rattle.rules.specs.declared.Found.{Found}
 use Rattle.rules.specs.declared.Found.TheVariants.{At, Nothing}
-use Rattle.rules.specs.contracts.Found.{the_type}
 use Rattle.rules.proofs.Logic.{and_left, and_right, both, never, fails}
 use Rattle.rules.proofs.Walks.{Lowest, nowhere, somewhere, lowest_is, lowest_first, lowest_same}
 use Rattle.rules.proofs.Meaning.{scan_found, scan_nothing}
@@ -138,14 +135,13 @@ found n f e p q = go (ℕ_discrete n 0) (rw q at p)
     go (yes z) r = absurd (let w : ◌≡◌ {A = ℕ} 0 1 = let s : e.0 ∷ [] ≡ [] = rw (eq-eqb n 0 z) at r in cc in omega arith)
     go (no z) r = (z, let s : e.0 ∷ [] ≡ n ∷ [] = rw (ne_eqb n 0 z) at r in cc)
 
-pub nothing : (n : ℕ) (f : Found) → found_at f ≡ or_nothing n → OneOf (1 ∷ []) (tag_of the_type f) → n ≡ 0
+pub nothing : (n : ℕ) (f : Found) → found_at f ≡ or_nothing n → f ≡ Nothing → n ≡ 0
 unfolding found_at or_nothing
-nothing n (At e) p h = absurd (omega arith)
-nothing n Nothing p h = go (ℕ_discrete n 0)
+nothing n f p q = go (ℕ_discrete n 0) (rw q at p)
   where
-    go : Dec (n ≡ 0) → n ≡ 0
-    go (yes z) = z
-    go (no z) = absurd (let w : ◌≡◌ {A = ℕ} 0 1 = let s : [] ≡ n ∷ [] = rw (ne_eqb n 0 z) at p in cc in omega arith)
+    go : Dec (n ≡ 0) → [] ≡ (if eqb n 0 then [] else n ∷ []) → n ≡ 0
+    go (yes z) r = z
+    go (no z) r = absurd (let w : ◌≡◌ {A = ℕ} 0 1 = let s : [] ≡ n ∷ [] = rw (ne_eqb n 0 z) at r in cc in omega arith)
 
 -- ---- a test that is just these two words'
 pub next_of_all : (t : Table) (f : ℕ → Bool) (k v j w : ℕ) → ((x : ℕ) → f x ≡ has_both t k v j w x)
@@ -171,7 +167,7 @@ module _ (t : Table) (f : ℕ → Bool) (k v j w : ℕ) (has : (x : ℕ) → f x
       go (yes l) = absurd (none_lowest f e past x a l p)
       go (no l) = both (lt-ltb e x (omega arith)) (has x p)
 
-  pub none_passes : OneOf (1 ∷ []) (tag_of the_type r) → [] ≡ or_nothing (lowest f (used t))
+  pub none_passes : r ≡ Nothing → [] ≡ or_nothing (lowest f (used t))
   none_passes h = scan_nothing f (used t) (go (next_with t e k v j w) next_is (nothing _ r next h))
     where
       go : (n : ℕ) → Lowest above (used t) n → n ≡ 0 → lowest f (used t) ≡ 0
