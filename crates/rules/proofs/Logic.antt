@@ -155,17 +155,17 @@ module _ {ℓ} (P : ℕ → Type ℓ) where
       go (inr j) = g x j
 
 -- ---- a test that code makes: r is what it found of a, and it goes by whether r is false
-pub found_false : {r a : Bool} → r ≡ a → not r ≡ true → a ≡ false
-found_false {r} p q = sym p ∙ not-true r q
+pub found_false : {r a : Bool} → r ≡ a → r ≡ false → a ≡ false
+found_false p q = sym p ∙ q
 
-pub found_true : {r a : Bool} → r ≡ a → not r ≡ false → a ≡ true
-found_true {r} p q = sym p ∙ not-false r q
+pub found_true : {r a : Bool} → r ≡ a → r ≡ true → a ≡ true
+found_true p q = sym p ∙ q
 
 -- such tests one after another, left at the first that fails
-pub and_stops : {r a : Bool} (b : Bool) → r ≡ a → not r ≡ true → false ≡ a and b
+pub and_stops : {r a : Bool} (b : Bool) → r ≡ a → r ≡ false → false ≡ a and b
 and_stops b p q = rw (found_false p q) refl
 
-pub and_goes : {r a b x : Bool} → r ≡ a → not r ≡ false → x ≡ b → x ≡ a and b
+pub and_goes : {r a b x : Bool} → r ≡ a → r ≡ true → x ≡ b → x ≡ a and b
 and_goes p q h = rw (found_true p q) h
 
 -- where the first is false, the two agree just where the second is false too

@@ -13,5 +13,5 @@ pub loop-left-preserved : goal.loop-left-preserved
 loop-left-preserved c = half_fits _ _ c.loop-left-test.true ∙ c.loop-left.invariant
 
 pub returns : goal.returns
-returns c = let end : c.loop-left.false ≡ 0 = omega arith in
+returns c = let end : c.loop-left.left ≡ 0 = omega arith in
     none_left _ ∙ rw end at c.loop-left.invariant
