@@ -1,0 +1,34 @@
+-- `formed::keys_fit` meets its contract: the two entries are the rule's, and their numbers are small.
+use Prim.Native.Nat.{ℕ}
+use native.Mathlib.Omega.{arith}
+use mathlib.Core.Path.{◌≡◌, refl, ◌∙◌}
+use borrow.Author.Rules.{rules}
+use Rattle.rules.specs.Table.{Table}
+use Rattle.rules.specs.Terms.{secret_key_type, public_key_type, secret_key_of, public_key_of}
+use Rattle.rules.specs.WellFormed.{is_secret_key_of, is_public_key_of, keys_fit}
+use Rattle.rules.proofs.Logic.{and_stops, and_goes}
+use Rattle.rules.proofs.Words.{most_high}
+use Rattle.formed.specs.Keys.{named_for, is_key_of}
+use Rattle.formed.proofs.keys_fit.Goals as goal
+
+secret_is : (t : Table) (p e : ℕ) → is_key_of t secret_key_type p e ≡ is_secret_key_of t p e
+unfolding is_key_of named_for is_secret_key_of
+secret_is t p e = refl
+
+public_is : (t : Table) (p e : ℕ) → is_key_of t public_key_type p e ≡ is_public_key_of t p e
+unfolding is_key_of named_for is_public_key_of
+public_is t p e = refl
+
+pub overflow_mul-p : goal.overflow_mul-p
+overflow_mul-p c = omega (arith, most_high c.args.t.now)
+
+pub returns-then-not-is_key_of : goal.returns-then-not-is_key_of
+unfolding keys_fit secret_key_of
+returns-then-not-is_key_of c = and_stops _ (c.is_key_of.ensures ∙ secret_is _ _ _) c.if-not-is_key_of.true
+
+pub overflow_mul-p-2 : goal.overflow_mul-p-2
+overflow_mul-p-2 c = omega (arith, most_high c.args.t.now)
+
+pub returns : goal.returns
+unfolding keys_fit secret_key_of public_key_of
+returns c = and_goes (c.is_key_of.ensures ∙ secret_is _ _ _) c.if-not-is_key_of.false (c.is_key_of-2.ensures ∙ public_is _ _ _)

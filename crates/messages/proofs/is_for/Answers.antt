@@ -1,0 +1,15 @@
+-- `messages::is_for` meets its contract: the two tests are the rule's, and twice a word fits in 32 bits.
+use mathlib.Core.Path.{refl}
+use borrow.Author.Tests.{eq-eqb, ne_eqb}
+use Rattle.rules.specs.Terms.{public_key_of}
+use Rattle.rules.specs.Steps.{is_for}
+use borrow.Author.Rules.{rules}
+use Rattle.messages.proofs.is_for.Goals as goal
+
+pub returns-then-kind-ne4 : goal.returns-then-kind-ne4
+unfolding is_for
+returns-then-kind-ne4 c = rw (← c.kind.ensures, ne_eqb _ 4 c.if-kind-ne4.true) refl
+
+pub returns : goal.returns
+unfolding is_for public_key_of
+returns c = rw (← c.kind.ensures, eq-eqb _ 4 c.if-kind-ne4.false, ← c.first.ensures) refl
