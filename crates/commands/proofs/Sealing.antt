@@ -3,7 +3,7 @@ use Prim.Native.Nat.{ℕ, ◌+◌}
 use mathlib.Core.Path.{◌≡◌, refl, sym, ap, ap₂, ◌∙◌}
 use mathlib.Core.Bool.{Bool, true, false, not}
 use mathlib.Core.List.{[], ◌∷◌}
-use borrow.Author.Tests.{eq-eqb, ne_eqb, not-false}
+use borrow.Author.Tests.{eq-eqb, ne_eqb, not-true, not-false}
 use Rattle.rules.specs.Choice.{◌and◌}
 use Rattle.rules.specs.Table.{Table, type_at, argument, length_at}
 use Rattle.rules.specs.Terms.{ciphertext, type_of, arguments_of, numbers_of, ciphertext_length, length_of, new_entry, add_entry}
@@ -61,10 +61,10 @@ module _ (t : Table) (k c y : ℕ) (key : y ≡ type_at t k) where
 -- ---- what is done with the entries of handles a and b, where r is whether both are held
 module _ (t : Table) (a b : ℕ) (of : ℕ → ℕ → Outcome) (r : Bool) (known : r ≡ holds_handle t 0 a and holds_handle t 0 b) where
   pub two_unheld : not r ≡ true → need (holds_handle t 0 a and holds_handle t 0 b) 5 t (of (entry_of t 0 a) (entry_of t 0 b)) ≡ gives (refused 5) t
-  two_unheld p = need_fails 5 t _ (found_false known p)
+  two_unheld p = need_fails 5 t _ (found_false known (not-true r p))
 
   pub two_held : (k l : ℕ) → not r ≡ false → (r ≡ true → (entry_of t 0 a ≡ k) × (entry_of t 0 b ≡ l))
       → need (holds_handle t 0 a and holds_handle t 0 b) 5 t (of (entry_of t 0 a) (entry_of t 0 b)) ≡ of k l
   two_held k l p q =
       let e = q (not-false r p) in
-      need_goes 5 t _ (found_true known p) ∙ ap₂ of e.0 e.1
+      need_goes 5 t _ (found_true known (not-false r p)) ∙ ap₂ of e.0 e.1
