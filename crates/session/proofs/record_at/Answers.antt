@@ -1,0 +1,13 @@
+-- `session::record_at` meets its contract: the command and the handles beside it are the rule's record.
+use Rattle.session.specs.Session.{read_as}
+use Rattle.session.proofs.Records.{body_read}
+use borrow.Author.Rules.{rules}
+use Rattle.session.proofs.record_at.Goals as goal
+
+pub returns : goal.returns
+unfolding read_as
+returns c =
+    let both = body_read c.args.file.now c.args.b c.args.l c.requires.within c.requires.length c.byte_at-kind.ensures
+    c.body_number-x.ensures c.body_number-y.ensures c.body_number-z.ensures c.body_number-w.ensures
+    c.command_of-command.ensures c.handles_of-handles.ensures in
+    record { read = both.0; handles = both.1 }

@@ -1,0 +1,16 @@
+-- `steps::create_unless` meets its contract: what was found stands, and where nothing was a new entry is made.
+use mathlib.Core.Path.{refl}
+use Rattle.rules.specs.Meaning.{found_at}
+use Rattle.steps.specs.Sending.{add_unless}
+use borrow.Author.Rules.{rules}
+use Rattle.steps.proofs.create_unless.Goals as goal
+
+pub returns-in-At : goal.returns-in-At
+unfolding found_at add_unless
+returns-in-At c = let at = c.in-At.is in
+    record { entry = rw at refl; table = rw at refl }
+
+pub returns-in-Nothing : goal.returns-in-Nothing
+unfolding found_at add_unless
+returns-in-Nothing c = let none = c.in-Nothing.is in
+    record { entry = rw none c.create.ensures.entry; table = rw none c.create.ensures.table }
