@@ -1,7 +1,7 @@
 -- `session::command_of` meets its contract: one arm for each kind.
 use native.Mathlib.Omega.{arith}
 use Rattle.session.specs.Session.{command_of}
-use Rattle.session.proofs.Records.{kinds_last, up}
+use Rattle.session.proofs.Records.{kinds_last}
 use Rattle.session.proofs.command_of.Goals as goal
 
 pub returns-in-0 : goal.returns-in-0
@@ -41,7 +41,4 @@ unfolding command_of
 returns-in-8 c = rw c.in-8.is
 
 pub returns-in-9-to-255 : goal.returns-in-9-to-255
-returns-in-9-to-255 c = let r = c.in-9-to-255.rest in
-    kinds_last _ _ _ _ _
-    (up _ 8 (up _ 7 (up _ 6 (up _ 5 (up _ 4 (up _ 3 (up _ 2 (up _ 1 (up _ 0 (omega arith)
-    r.0.0.0.0.0.0.0.0.1) r.0.0.0.0.0.0.0.1) r.0.0.0.0.0.0.1) r.0.0.0.0.0.1) r.0.0.0.0.1) r.0.0.0.1) r.0.0.1) r.0.1) r.1)
+returns-in-9-to-255 c = kinds_last _ _ _ _ _ (omega arith)

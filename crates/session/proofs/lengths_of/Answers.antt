@@ -1,11 +1,10 @@
 -- `session::lengths_of` meets its contract: each arm has its kinds' lengths.
-use Prim.Native.Nat.{◌+◌, ◌≤◌}
 use mathlib.Core.Path.{◌≡◌, refl}
-use mathlib.Core.Logic.{⊎_elim, inl, inr}
+use mathlib.Core.Logic.{⊎_elim}
 use native.Mathlib.Omega.{arith}
 use Rattle.rules.specs.Session.{body_lengths}
 use Rattle.session.specs.Session.{lengths_as}
-use Rattle.session.proofs.Records.{up, kinds_six, kinds_unknown}
+use Rattle.session.proofs.Records.{kinds_six, kinds_unknown}
 use Rattle.session.proofs.lengths_of.Goals as goal
 
 pub returns-in-0 : goal.returns-in-0
@@ -26,16 +25,12 @@ returns-in-5 c = rw c.in-5.is refl
 
 pub returns-in-10-to-255 : goal.returns-in-10-to-255
 unfolding lengths_as
-returns-in-10-to-255 c = kinds_unknown _ (let f : c.args.kind ≡ 9 → ⊥ = λ e. c.in_default-1.rest.0.0.1 (inr e) in omega arith)
+returns-in-10-to-255 c = kinds_unknown _ (grind arith)
 
 pub returns-in-1 : goal.returns-in-1
 unfolding body_lengths lengths_as
-returns-in-1 c = rw c.in-1.is refl
+returns-in-1 c = let one : c.args.kind ≡ 1 = omega arith in rw one refl
 
 pub returns-in-1-2 : goal.returns-in-1-2
 unfolding lengths_as
-returns-in-1-2 c = let kind = c.args.kind in
-    let r = c.in_default-1.rest in
-    let past_two : 2 + 1 ≤ kind =
-    up _ 2 (up _ 1 (up _ 0 (omega arith) (λ e. r.0.0.0.0.1 (inl e))) r.0.0.0.1) (λ e. r.0.0.0.0.1 (inr e)) in
-    kinds_six _ (up _ 5 (up _ 4 (up _ 3 past_two (λ e. r.0.0.1 (inl e))) r.0.1) r.1) c.if-kind-lt9.true
+returns-in-1-2 c = kinds_six _ (grind arith) (grind arith)

@@ -15,10 +15,6 @@ pub returns-then-file-at-clause-handles : goal.returns-then-file-at-clause-handl
 unfolding read_as beside four_handles
 returns-then-file-at-clause-handles c = rw (reads_end _ _ c.if-file-at.true) refl
 
-pub returns-then-file-at-clause-four : goal.returns-then-file-at-clause-four
-unfolding read_as beside four_handles
-returns-then-file-at-clause-four c = rw (reads_end _ _ c.if-file-at.true) refl
-
 pub returns-then-file-at-2-clause-read : goal.returns-then-file-at-2-clause-read
 unfolding read_as beside four_handles
 returns-then-file-at-2-clause-read c = rw (reads_short _ _ c.if-file-at.false c.if-file-at-2.true) refl
@@ -26,10 +22,6 @@ returns-then-file-at-2-clause-read c = rw (reads_short _ _ c.if-file-at.false c.
 pub returns-then-file-at-2-clause-handles : goal.returns-then-file-at-2-clause-handles
 unfolding read_as beside four_handles
 returns-then-file-at-2-clause-handles c = rw (reads_short _ _ c.if-file-at.false c.if-file-at-2.true) refl
-
-pub returns-then-file-at-2-clause-four : goal.returns-then-file-at-2-clause-four
-unfolding read_as beside four_handles
-returns-then-file-at-2-clause-four c = rw (reads_short _ _ c.if-file-at.false c.if-file-at-2.true) refl
 
 pub returns-clause-read : goal.returns-clause-read
 returns-clause-read c = let a = c.args in
@@ -42,6 +34,4 @@ returns-clause-handles c = let a = c.args in
     rw (e, ← c.number.ensures) c.read_body.ensures.handles
 
 pub returns-clause-four : goal.returns-clause-four
-returns-clause-four c = let a = c.args in
-    let e = reads_body a.file.now a.at c.if-file-at-2.false in
-    rw (e, ← c.number.ensures) ap length c.read_body.ensures.handles ∙ four_long _
+returns-clause-four c = ap length c.read_body.ensures.handles ∙ four_long _
