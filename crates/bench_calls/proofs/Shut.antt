@@ -42,7 +42,7 @@ abbrev called : Ended
 called = own.bench_play.ended
 
 abbrev promised : Written called
-promised M = own.bench_play.clauses
+promised M 𝓤 = own.bench_play.clauses
 
 -- what can be passed, where alone a program can be tried
 abbrev pub Tried : Inputs called

@@ -59,7 +59,7 @@ abbrev called : Ended
 called = own.perform.ended
 
 abbrev promised : Written called
-promised M = own.perform.clauses
+promised M 𝓤 = own.perform.clauses
 
 -- what can be passed, where alone a program can be tried
 abbrev pub Tried : Inputs called

@@ -1,0 +1,9 @@
+-- `machine::encrypt` meets its contract: it is performed under its name.
+use borrow.Author.Rules.{rules}
+use Rattle.rules.specs.Machine.{perform}
+use Rattle.rules.specs.Meaning.{asked}
+use Rattle.machine.proofs.encrypt.Goals as goal
+
+pub returns : goal.returns
+unfolding asked perform
+returns c = record { answer = c.perform.ensures.answer; table = c.perform.ensures.table }
