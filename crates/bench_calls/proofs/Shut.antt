@@ -81,13 +81,12 @@ pub record Input : Type 0 where
 pub record Place : Type 0 where
   pub lifetimes : Lfts called.signature.lifetimes
   pub session_pointer : ℕ × ℕ
-  pub session_name : ℕ
   pub output_pointer : ℕ × ℕ
   pub output_name : ℕ
 
 abbrev lent : (p : Place) (x : Input) → Args called.signature p.lifetimes
 lent p x = (
-  record { ref_ptr = p.session_pointer; ghost_name = p.session_name; now = x.file },
+  record { ref_ptr = p.session_pointer; now = x.file },
   (record { ref_ptr = p.output_pointer; ghost_name = p.output_name; now = x.output }, tt),
 )
 

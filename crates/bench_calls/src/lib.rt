@@ -1,4 +1,4 @@
-// The calls of a C host: a whole session, and one record on the host's own table (rules K1 and K2).
+// What a C host calls: a whole session, and one record on the host's own table (rules K1 and K2). The crate `bench_calls_c` exports both.
 #![tactic(auto)]
 
 ghost use Rattle.std.specs.Prelude.{◌≡◌, ◌++◌, length, replicate, drop, ◌≤◌};
@@ -21,8 +21,7 @@ fn clear(out: &mut [u8])
 }
 
 // K1: plays a session for a C host. An output of most_bytes is always long enough.
-#[unsafe(no_mangle)]
-pub extern "C" fn bench_play(session: &[u8], out: &mut [u8]) -> u32
+pub fn bench_play(session: &[u8], out: &mut [u8]) -> u32
     ensures value { result ≡ (play_into session.now out.old).result }
     ensures output { out.new ≡ (play_into session.now out.old).output }
     ensures small { length (played session.now) ≤ most_bytes }
@@ -62,8 +61,7 @@ fn put_four(out: &mut [u16], ns: [u16; 4])
 }
 
 // K2: performs one record on the host's table.
-#[unsafe(no_mangle)]
-pub extern "C" fn bench_perform(bytes: &[u8], table: &mut [u16], answer: &mut [u16]) -> u32
+pub fn bench_perform(bytes: &[u8], table: &mut [u16], answer: &mut [u16]) -> u32
     ensures value { result ≡ (perform_into bytes.now table.old answer.old).result }
     ensures table_after { table.new ≡ (perform_into bytes.now table.old answer.old).table }
     ensures answer_after { answer.new ≡ (perform_into bytes.now table.old answer.old).output }

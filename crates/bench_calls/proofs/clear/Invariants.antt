@@ -1,0 +1,15 @@
+-- `bench_calls::clear` meets its contract: the bytes before the index are zero, those from it on as they were.
+use Prim.Native.Nat.{ℕ, ◌≤◌, ◌-◌}
+use native.Mathlib.Omega.{arith}
+use mathlib.Core.Path.{◌≡◌, refl, ap, ◌∙◌}
+use mathlib.Core.List.{List, ◌++◌}
+use lib.ListN.{length, drop, replicate, set, length-set}
+use borrow.Author.Fill.{fill_none, fill_more}
+use Rattle.bench_calls.proofs.Calling.{filled}
+use Rattle.bench_calls.proofs.clear.Given as goal
+
+abbrev pub invariant-loop-i : goal.invariant-loop-i
+invariant-loop-i l = (l.i ≤ length l.initial.out) × (length l.out ≡ length l.initial.out) × (l.out ≡ replicate l.i 0 ++ drop l.i l.initial.out)
+
+abbrev pub decreases-loop-i : goal.decreases-loop-i
+decreases-loop-i l = length l.initial.out - l.i
