@@ -1,9 +1,9 @@
 // The player program: a session file on standard input, its lines on standard output.
 #![tactic(auto)]
 
-ghost use Rattle.std.specs.Prelude.{◌≡◌, length};
+ghost use Rattle.std.specs.Prelude.{◌≡◌, ◌≤◌, length};
 
-use libc::{STDIN_FILENO, STDOUT_FILENO};
+use std::io::{self, Read};
 
 // One byte more than a file may have, so that a longer one shows.
 fn input() -> [u8; 65537]
@@ -19,13 +19,25 @@ fn output() -> [u8; 677215]
     [0; 677215]
 }
 
-// Input that can't be read counts as ended there. Lines that can't be written are told on standard error.
-fn main() {
+// Fills the buffer from its start as far as the input goes, and says how far. Input that can't be read counts as ended there.
+fn read_full(from: &mut impl Read, buf: &mut [u8]) -> usize
+    ensures { result ≤ length buf.new }
+{
+    let mut done = 0;
+    while done < buf.len() {
+        match from.read(&mut buf[done..]) {
+            Ok(n) if 0 < n => done += n,
+            _ => break,
+        }
+    }
+    done
+}
+
+// Lines that can't be written are told on standard error.
+fn main(rt: HostRuntime) -> io::Result<()> {
     let mut file = input();
-    let n = io::read_full(STDIN_FILENO, &mut file);
+    let n = read_full(&mut rt.stdin(), &mut file);
     let mut out = output();
     let end = bench_calls::bench_play(&file[..n], &mut out) as usize;
-    if !io::write_all(STDOUT_FILENO, &out[..end]) {
-        os::fail(b"bench");
-    }
+    rt.write_all(&out[..end])
 }

@@ -3,9 +3,9 @@
 // an output of sixteen bytes of which so many were lent, then 0 and how many were written, or 1 and the refusal.
 #![tactic(auto)]
 
-use libc::{STDIN_FILENO, STDOUT_FILENO};
 use rules::{Command, Handle};
 use session::Written;
+use std::io::{self, Read};
 
 fn number(high: u8, low: u8) -> u16 {
     256 * high as u16 + low as u16
@@ -40,29 +40,30 @@ fn handles(r: [u8; 12]) -> [Handle; 4] {
     [Handle(a), Handle(b), Handle(c), Handle(d)]
 }
 
-fn tell(how: u8, n: u8) {
-    let said = [how, n];
-    io::write_all(STDOUT_FILENO, &said);
+fn tell(rt: &impl Print, how: u8, n: u8) -> io::Result<()> {
+    rt.write_all(&[how, n])
 }
 
-fn answer(r: [u8; 12]) {
+fn answer(rt: &impl Print, r: [u8; 12]) -> io::Result<()> {
     let mut out = [165u8; 16];
     let room = r[11] as usize % 17;
     let written = session::write_record(command(r), handles(r), &mut out[..room]);
-    io::write_all(STDOUT_FILENO, &out);
+    rt.write_all(&out)?;
     match written {
-        Written::Bytes(n) => tell(0, (n % 256) as u8),
-        Written::Refused(n) => tell(1, (n % 256) as u8),
+        Written::Bytes(n) => tell(rt, 0, (n % 256) as u8),
+        Written::Refused(n) => tell(rt, 1, (n % 256) as u8),
     }
 }
 
 // A million requests at most, up to the first that isn't whole.
-fn main() {
+fn main(rt: HostRuntime) -> io::Result<()> {
+    let mut input = rt.stdin();
     for _ in 0..1000000u32 {
         let mut r = [0u8; 12];
-        if io::read_full(STDIN_FILENO, &mut r) < 12 {
+        if input.read_exact(&mut r).is_err() {
             break;
         }
-        answer(r);
+        answer(&rt, r)?;
     }
+    Ok(())
 }
