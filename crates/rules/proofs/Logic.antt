@@ -8,7 +8,7 @@ use mathlib.Core.List.Memᴰ
 use mathlib.Core.List.{List, [], ◌∷◌, ◌++◌, Memᴰ}
 use lib.Dec.{T, eqb}
 use lib.ListN.{length, get_or, take}
-use borrow.Author.Tests.{eqb-true, eq-eqb, not-true, not-false}
+use borrow.Author.Tests.{eqb-true, eq-eqb}
 use Rattle.rules.specs.Choice.{◌and◌, ◌or◌, ◌implies◌, agree, every, sum_of, same}
 
 -- a conjunction that passes, taken apart and put together

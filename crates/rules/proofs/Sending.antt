@@ -11,7 +11,7 @@ use lib.ListN.{length, length-append}
 use borrow.Author.Tests.{eq-eqb, ne_eqb}
 use Rattle.rules.specs.Table.{Table, most, capacity, used, next_handle, handle}
 use Rattle.rules.specs.Terms.{datum, nonce, list, ciphertext, blank, arguments_of, public_key_of, datum_length, nonce_length, list_length, ciphertext_length, find_datum, find_list}
-use Rattle.rules.specs.Handles.{grant, grant_each, holds, names, entry_of}
+use Rattle.rules.specs.Handles.{grant, grant_each, names, entry_of}
 use Rattle.rules.specs.Outcome.{Outcome, gives, sent}
 use Rattle.rules.specs.Steps.{Made, make, make_unless, unless_found, sealed_lengths, send, named_length, named_lengths, send_named}
 use Rattle.rules.specs.Handshake.{term_in, Carries}

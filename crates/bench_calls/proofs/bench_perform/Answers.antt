@@ -2,7 +2,6 @@
 use mathlib.Core.Path.{refl, ◌∙◌}
 use Rattle.rules.specs.Calls.{performs}
 use Rattle.bench_calls.proofs.Calling.{nothing_read, malformed_read, more_than_one, no_room, one_record}
-use borrow.Author.Rules.{rules}
 use Rattle.bench_calls.proofs.bench_perform.Goals as goal
 
 pub returns-then-next-bytes-clause-value : goal.returns-then-next-bytes-clause-value

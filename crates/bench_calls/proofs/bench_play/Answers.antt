@@ -3,7 +3,6 @@ use native.Mathlib.Omega.{arith}
 use Rattle.rules.specs.Player.{most_bytes}
 use Rattle.text.proofs.Putting.{put_length}
 use Rattle.bench_calls.proofs.Calling.{fitting, over}
-use borrow.Author.Rules.{rules}
 use Rattle.bench_calls.proofs.bench_play.Goals as goal
 
 pub overflow_cast-result : goal.overflow_cast-result

@@ -1,9 +1,9 @@
 -- `bench_calls::clear` meets its contract: the bytes before the index are zero, those from it on as they were.
-use Prim.Native.Nat.{ℕ, ◌≤◌, ◌-◌}
+use Prim.Native.Nat.{ℕ}
 use native.Mathlib.Omega.{arith}
-use mathlib.Core.Path.{◌≡◌, refl, ap, ◌∙◌}
-use mathlib.Core.List.{List, ◌++◌}
-use lib.ListN.{length, drop, replicate, set, length-set}
+use mathlib.Core.Path.{refl, ap, ◌∙◌}
+use mathlib.Core.List.{List}
+use lib.ListN.{set, length-set}
 use borrow.Author.Fill.{fill_none, fill_more}
 use Rattle.bench_calls.proofs.Calling.{filled}
 use Rattle.bench_calls.proofs.clear.Goals as goal

@@ -1,11 +1,8 @@
 -- `bench_calls::clear` meets its contract: the bytes before the index are zero, those from it on as they were.
-use Prim.Native.Nat.{ℕ, ◌≤◌, ◌-◌}
-use native.Mathlib.Omega.{arith}
-use mathlib.Core.Path.{◌≡◌, refl, ap, ◌∙◌}
-use mathlib.Core.List.{List, ◌++◌}
-use lib.ListN.{length, drop, replicate, set, length-set}
-use borrow.Author.Fill.{fill_none, fill_more}
-use Rattle.bench_calls.proofs.Calling.{filled}
+use Prim.Native.Nat.{◌≤◌, ◌-◌}
+use mathlib.Core.Path.{◌≡◌}
+use mathlib.Core.List.{◌++◌}
+use lib.ListN.{length, drop, replicate}
 use Rattle.bench_calls.proofs.clear.Given as goal
 
 abbrev pub invariant-loop-i : goal.invariant-loop-i

@@ -2,7 +2,6 @@
 use mathlib.Core.Path.{refl}
 use Rattle.rules.specs.Calls.{four_numbers}
 use Rattle.rules.specs.Meaning.{said}
-use borrow.Author.Rules.{rules}
 use Rattle.bench_calls.proofs.four_numbers.Goals as goal
 
 pub returns-in-Ready : goal.returns-in-Ready

@@ -2,7 +2,6 @@
 use native.Mathlib.Omega.{arith}
 use lib.ListN.{length-set}
 use Rattle.bench_calls.proofs.Calling.{four_put}
-use borrow.Author.Rules.{rules}
 use Rattle.bench_calls.proofs.put_four.Goals as goal
 
 pub bounds-out-1 : goal.bounds-out-1

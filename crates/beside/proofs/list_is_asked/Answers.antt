@@ -1,14 +1,8 @@
 -- `beside::list_is_asked` meets its contract: when handle i is reached, those from i on decide.
-use Prim.Native.Nat.{◌≤◌, ◌-◌}
-use mathlib.Core.Path.{◌≡◌}
-use lib.ListN.{drop}
 use native.Mathlib.Omega.{arith}
 use borrow.Author.Tests.{lt-leb, le-leb}
-use Rattle.rules.specs.Choice.{every, is_zero}
 use Rattle.rules.specs.Commands.{list_is_asked}
-use Rattle.beside.specs.Beside.{numbers_beside}
 use Rattle.beside.proofs.Asked.{zeros_next, zeros_stop, zeros_end}
-use borrow.Author.Rules.{rules}
 use Rattle.beside.proofs.list_is_asked.Goals as goal
 
 pub returns-then-count-lt1 : goal.returns-then-count-lt1

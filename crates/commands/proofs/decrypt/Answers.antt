@@ -4,7 +4,6 @@ use Rattle.rules.specs.Commands.{decrypt_of, decrypt}
 use Rattle.rules.specs.Meaning.{said}
 use Rattle.rules.proofs.Needs.{ends}
 use Rattle.commands.proofs.Sealing.{two_unheld, two_held}
-use borrow.Author.Rules.{rules}
 use Rattle.commands.proofs.decrypt.Goals as goal
 
 pub returns-then-not-two : goal.returns-then-not-two

@@ -3,7 +3,6 @@ use mathlib.Core.Path.{refl}
 use Rattle.rules.specs.Meaning.{said}
 use Rattle.rules.proofs.Needs.{ends}
 use Rattle.commands.proofs.Sealing.{no_secret_key, no_ciphertext, other_key, opened}
-use borrow.Author.Rules.{rules}
 use Rattle.commands.proofs.decrypt_of.Goals as goal
 
 pub returns-then-kind-ne5 : goal.returns-then-kind-ne5

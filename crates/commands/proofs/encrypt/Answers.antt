@@ -4,7 +4,6 @@ use Rattle.rules.specs.Commands.{encrypt_of, encrypt}
 use Rattle.rules.specs.Meaning.{said}
 use Rattle.rules.proofs.Needs.{ends}
 use Rattle.commands.proofs.Sealing.{two_unheld, two_held}
-use borrow.Author.Rules.{rules}
 use Rattle.commands.proofs.encrypt.Goals as goal
 
 pub returns-then-not-two : goal.returns-then-not-two

@@ -3,7 +3,6 @@ use mathlib.Core.Path.{refl}
 use Rattle.rules.specs.Meaning.{said}
 use Rattle.rules.proofs.Needs.{ends}
 use Rattle.commands.proofs.Sealing.{no_public_key, no_list, sealed}
-use borrow.Author.Rules.{rules}
 use Rattle.commands.proofs.encrypt_of.Goals as goal
 
 pub returns-then-kind-ne6 : goal.returns-then-kind-ne6

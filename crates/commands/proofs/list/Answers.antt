@@ -8,7 +8,6 @@ use Rattle.rules.proofs.Needs.{ends}
 use Rattle.beside.proofs.Asked.{asked_fits}
 use Rattle.commands.proofs.Arrays.{padded_take, padded_again}
 use Rattle.commands.proofs.Listing.{unasked_list, unheld_list, held_list}
-use borrow.Author.Rules.{rules}
 use Rattle.commands.proofs.list.Goals as goal
 
 pub returns-then-not-list_is_asked : goal.returns-then-not-list_is_asked

@@ -1,18 +1,13 @@
 -- `commands::look_up` meets its contract: when handle i is reached the first i are held, and the entries are theirs with zeros after
 -- them.
-use Prim.Native.Nat.{◌-◌, ◌≤◌}
 use native.Mathlib.Omega.{arith}
 use mathlib.Core.Path.{◌≡◌, refl, sym, ap, ◌∙◌}
-use mathlib.Core.Bool.{true}
-use lib.ListN.{take}
-use Rattle.rules.specs.Choice.{every}
 use Rattle.rules.specs.Handles.{entry_of, holds_handle}
 use Rattle.rules.proofs.Logic.{never}
-use Rattle.terms.specs.Elements.{numbers}
 use Rattle.terms.proofs.Numbers.{numbers_set}
 use Rattle.beside.specs.Beside.{numbers_beside}
 use Rattle.beside.proofs.Asked.{number_beside}
-use Rattle.commands.proofs.Arrays.{every_none, every_next, every_fails, through, through_next, through_all}
+use Rattle.commands.proofs.Arrays.{every_none, every_next, every_fails, through_next, through_all}
 use Rattle.commands.proofs.Ways.{held, held_at, unheld}
 use borrow.Author.Rules.{rules}
 use Rattle.commands.proofs.look_up.Goals as goal
@@ -23,8 +18,11 @@ loop-i-init c = (search rules, refl, every_none (holds_handle _ 0) (numbers_besi
 pub returns-in_default : goal.returns-in_default
 returns-in_default c =
     let hs = c.args.handles in
-    let at = number_beside hs c.loop-i.i (omega arith) in record { held = sym (every_fails (holds_handle _ 0) c.args.count c.loop-i.i (numbers_beside hs) (omega arith) (omega arith)
-          (ap (holds_handle _ 0) at ∙ unheld _ _ _ c.entry_of.ensures c.in_default.is)); entries = λ q. never q refl }
+    let at = number_beside hs c.loop-i.i (omega arith) in record {
+      held = sym (every_fails (holds_handle _ 0) c.args.count c.loop-i.i (numbers_beside hs) (omega arith) (omega arith)
+          (ap (holds_handle _ 0) at ∙ unheld _ _ _ c.entry_of.ensures c.in_default.is));
+      entries = λ q. never q refl;
+    }
 
 pub loop-i-preserved : goal.loop-i-preserved
 loop-i-preserved c =

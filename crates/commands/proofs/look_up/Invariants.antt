@@ -1,20 +1,14 @@
 -- `commands::look_up` meets its contract: when handle i is reached the first i are held, and the entries are theirs with zeros after
 -- them.
 use Prim.Native.Nat.{◌-◌, ◌≤◌}
-use native.Mathlib.Omega.{arith}
-use mathlib.Core.Path.{◌≡◌, refl, sym, ap, ◌∙◌}
+use mathlib.Core.Path.{◌≡◌}
 use mathlib.Core.Bool.{true}
 use lib.ListN.{take}
 use Rattle.rules.specs.Choice.{every}
 use Rattle.rules.specs.Handles.{entry_of, holds_handle}
-use Rattle.rules.proofs.Logic.{never}
 use Rattle.terms.specs.Elements.{numbers}
-use Rattle.terms.proofs.Numbers.{numbers_set}
 use Rattle.beside.specs.Beside.{numbers_beside}
-use Rattle.beside.proofs.Asked.{number_beside}
-use Rattle.commands.proofs.Arrays.{every_none, every_next, every_fails, through, through_next, through_all}
-use Rattle.commands.proofs.Ways.{held, held_at, unheld}
-use borrow.Author.Rules.{rules}
+use Rattle.commands.proofs.Arrays.{through}
 use Rattle.commands.proofs.look_up.Given as goal
 
 abbrev pub invariant-loop-i : goal.invariant-loop-i

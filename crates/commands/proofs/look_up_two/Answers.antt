@@ -3,14 +3,13 @@
 use mathlib.Core.Path.{refl, sym}
 use Rattle.rules.proofs.Logic.{never, both}
 use Rattle.commands.proofs.Ways.{held, held_at, unheld}
-use borrow.Author.Rules.{rules}
 use Rattle.commands.proofs.look_up_two.Goals as goal
 
 pub returns-in_default : goal.returns-in_default
 returns-in_default c = record { held = rw (unheld _ _ _ c.entry_of.ensures c.in_default.is) refl; entries = λ q. never q refl }
 
 pub returns-in_default-entry_of : goal.returns-in_default-entry_of
-returns-in_default-entry_of c =  record { held = rw (held _ _ _ c.entry_of.ensures _ c.in-At.is, unheld _ _ _ c.entry_of-2.ensures c.in_default-entry_of.is) refl; entries = λ q. never q refl }
+returns-in_default-entry_of c = record { held = rw (held _ _ _ c.entry_of.ensures _ c.in-At.is, unheld _ _ _ c.entry_of-2.ensures c.in_default-entry_of.is) refl; entries = λ q. never q refl }
 
 pub returns : goal.returns
 returns c =

@@ -1,12 +1,10 @@
 -- `commands::make_list_of` meets its contract: a secret key is 6; else the list that is there is given, or a new one.
 use mathlib.Core.Path.{refl, sym, ◌∙◌}
-use borrow.Author.Tests.{not-true, not-false}
 use Rattle.rules.specs.Meaning.{said}
 use Rattle.rules.proofs.Needs.{ends}
 use Rattle.rows.proofs.Search.{found, nothing}
 use Rattle.commands.proofs.Ways.{gives_found, gives_unfound}
 use Rattle.commands.proofs.Listing.{secret_listed, none_secret, new_list}
-use borrow.Author.Rules.{rules}
 use Rattle.commands.proofs.make_list_of.Goals as goal
 
 pub returns-then-not-may_be_listed : goal.returns-then-not-may_be_listed

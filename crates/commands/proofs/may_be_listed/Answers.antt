@@ -1,11 +1,8 @@
 -- `commands::may_be_listed` meets its contract: when entry i is reached the first i may be listed, so the first that may not decides.
 --
-use Prim.Native.Nat.{◌-◌, ◌≤◌}
 use native.Mathlib.Omega.{arith}
 use mathlib.Core.Path.{◌≡◌, sym, ap, ◌∙◌}
-use mathlib.Core.Bool.{true}
-use lib.ListN.{length, take}
-use Rattle.rules.specs.Choice.{every}
+use lib.ListN.{length}
 use Rattle.rules.specs.Commands.{may_be_listed}
 use Rattle.terms.specs.Elements.{numbers}
 use Rattle.terms.proofs.Numbers.{numbers_length, number_at_lem}

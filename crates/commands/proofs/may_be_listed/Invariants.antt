@@ -1,17 +1,12 @@
 -- `commands::may_be_listed` meets its contract: when entry i is reached the first i may be listed, so the first that may not decides.
 --
 use Prim.Native.Nat.{◌-◌, ◌≤◌}
-use native.Mathlib.Omega.{arith}
-use mathlib.Core.Path.{◌≡◌, sym, ap, ◌∙◌}
+use mathlib.Core.Path.{◌≡◌}
 use mathlib.Core.Bool.{true}
-use lib.ListN.{length, take}
+use lib.ListN.{take}
 use Rattle.rules.specs.Choice.{every}
 use Rattle.rules.specs.Commands.{may_be_listed}
 use Rattle.terms.specs.Elements.{numbers}
-use Rattle.terms.proofs.Numbers.{numbers_length, number_at_lem}
-use Rattle.commands.proofs.Arrays.{every_none, every_next, every_fails}
-use Rattle.commands.proofs.Listing.{secret, no_secret}
-use borrow.Author.Rules.{rules}
 use Rattle.commands.proofs.may_be_listed.Given as goal
 
 abbrev pub invariant-loop-i : goal.invariant-loop-i

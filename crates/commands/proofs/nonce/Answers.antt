@@ -2,7 +2,6 @@
 use Rattle.rules.specs.Commands.{new_nonce}
 use Rattle.rules.proofs.Needs.{ends}
 use Rattle.commands.proofs.Making.{new_nonce_lem}
-use borrow.Author.Rules.{rules}
 use Rattle.commands.proofs.nonce.Goals as goal
 
 pub returns : goal.returns

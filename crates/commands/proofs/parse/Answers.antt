@@ -4,7 +4,6 @@ use Rattle.rules.specs.Outcome.{Outcome}
 use Rattle.rules.specs.Meaning.{said}
 use Rattle.commands.proofs.Ways.{held, held_at, unheld}
 use Rattle.commands.proofs.Parsing.{parse_unheld, parse_held}
-use borrow.Author.Rules.{rules}
 use Rattle.commands.proofs.parse.Goals as goal
 
 pub returns-in_default : goal.returns-in_default

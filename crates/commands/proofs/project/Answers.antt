@@ -1,11 +1,9 @@
 -- `commands::project` meets its contract: each way out is the rule's.
 use mathlib.Core.Path.{refl, sym, ◌∙◌}
-use borrow.Author.Tests.{not-true, not-false}
 use Rattle.rules.specs.Meaning.{said}
 use Rattle.rules.proofs.Needs.{ends}
 use Rattle.commands.proofs.Ways.{held, held_at, unheld}
 use Rattle.commands.proofs.Projecting.{no_place, place_unheld, place_held, place_small}
-use borrow.Author.Rules.{rules}
 use Rattle.commands.proofs.project.Goals as goal
 
 pub returns-then-not-is_place : goal.returns-then-not-is_place

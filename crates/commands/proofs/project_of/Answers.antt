@@ -3,7 +3,6 @@ use mathlib.Core.Path.{refl}
 use Rattle.rules.specs.Meaning.{said}
 use Rattle.rules.proofs.Needs.{ends}
 use Rattle.commands.proofs.Projecting.{of_no_list, past_end, element}
-use borrow.Author.Rules.{rules}
 use Rattle.commands.proofs.project_of.Goals as goal
 
 pub returns-then-kind-ne3 : goal.returns-then-kind-ne3

@@ -5,7 +5,6 @@ use Rattle.rules.proofs.Needs.{ends}
 use Rattle.rows.proofs.Search.{found, nothing}
 use Rattle.commands.proofs.Ways.{gives_found, gives_unfound}
 use Rattle.commands.proofs.Making.{new_datum}
-use borrow.Author.Rules.{rules}
 use Rattle.commands.proofs.store.Goals as goal
 
 pub returns-in-At : goal.returns-in-At

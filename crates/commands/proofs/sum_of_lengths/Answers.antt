@@ -1,10 +1,8 @@
 -- `commands::sum_of_lengths` meets its contract: when entry i is reached the sum is that of the first i, each at most 65535.
 --
-use Prim.Native.Nat.{◌-◌, ◌*◌, ◌≤◌}
 use native.Mathlib.Omega.{arith}
 use mathlib.Core.Path.{◌≡◌, refl, sym, ap, ◌∙◌}
-use lib.ListN.{length, take}
-use Rattle.rules.specs.Choice.{sum_of}
+use lib.ListN.{length}
 use Rattle.rules.specs.Table.{length_at}
 use Rattle.terms.specs.Elements.{numbers}
 use Rattle.terms.proofs.Numbers.{numbers_length, number_at_lem}

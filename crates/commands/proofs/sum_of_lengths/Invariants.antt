@@ -1,15 +1,11 @@
 -- `commands::sum_of_lengths` meets its contract: when entry i is reached the sum is that of the first i, each at most 65535.
 --
 use Prim.Native.Nat.{◌-◌, ◌*◌, ◌≤◌}
-use native.Mathlib.Omega.{arith}
-use mathlib.Core.Path.{◌≡◌, refl, sym, ap, ◌∙◌}
-use lib.ListN.{length, take}
+use mathlib.Core.Path.{◌≡◌}
+use lib.ListN.{take}
 use Rattle.rules.specs.Choice.{sum_of}
 use Rattle.rules.specs.Table.{length_at}
 use Rattle.terms.specs.Elements.{numbers}
-use Rattle.terms.proofs.Numbers.{numbers_length, number_at_lem}
-use Rattle.commands.proofs.Arrays.{sum_none, sum_next}
-use borrow.Author.Rules.{rules}
 use Rattle.commands.proofs.sum_of_lengths.Given as goal
 
 abbrev pub invariant-loop-i : goal.invariant-loop-i

@@ -1,7 +1,6 @@
 -- `entries_fit::ciphertext_fits` meets its contract: the tests are the rule's.
 use mathlib.Core.Path.{refl}
 use borrow.Author.Tests.{eq-eqb, ne_eqb}
-use borrow.Author.Rules.{rules}
 use Rattle.rules.specs.WellFormed.{ciphertext_fits}
 use Rattle.rules.proofs.Logic.{and_stops, and_goes}
 use Rattle.entries_fit.proofs.ciphertext_fits.Goals as goal

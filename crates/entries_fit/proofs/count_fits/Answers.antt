@@ -1,7 +1,6 @@
 -- `entries_fit::count_fits` meets its contract: a list's count by its bounds, any other by its type.
 use mathlib.Core.Path.{refl}
 use borrow.Author.Tests.{le-leb, lt-leb, eq-eqb, ne_eqb}
-use borrow.Author.Rules.{rules}
 use Rattle.rules.specs.WellFormed.{count_fits}
 use Rattle.entries_fit.proofs.count_fits.Goals as goal
 

@@ -1,7 +1,7 @@
 -- `entries_fit::count_of` meets its contract: the same two types.
 use native.Mathlib.Omega.{arith}
 use mathlib.Core.Path.{refl}
-use mathlib.Core.Logic.{inl, inr, ⊎_elim}
+use mathlib.Core.Logic.{⊎_elim}
 use borrow.Author.Tests.{ne_eqb}
 use Rattle.rules.specs.WellFormed.{count_of}
 use Rattle.entries_fit.proofs.count_of.Goals as goal

@@ -1,7 +1,6 @@
 -- `entries_fit::element_fits` meets its contract: the two tests are those of the contract.
 use mathlib.Core.Path.{refl}
 use borrow.Author.Tests.{lt-ltb, le-ltb}
-use borrow.Author.Rules.{rules}
 use Rattle.entries_fit.proofs.element_fits.Goals as goal
 
 pub returns-then-n-i : goal.returns-then-n-i

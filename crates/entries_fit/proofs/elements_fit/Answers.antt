@@ -1,5 +1,4 @@
 -- `entries_fit::elements_fit` meets its contract: the four arguments are tested in order.
-use borrow.Author.Rules.{rules}
 use Rattle.rules.proofs.Logic.{and_stops, and_goes}
 use Rattle.entries_fit.proofs.Elements.{elements_are}
 use Rattle.entries_fit.proofs.elements_fit.Goals as goal

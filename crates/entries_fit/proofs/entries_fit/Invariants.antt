@@ -1,13 +1,9 @@
 -- `entries_fit::entries_fit` meets its contract: when entry e is reached all up to e fit.
-use Prim.Native.Nat.{◌+◌, ◌-◌, ◌≤◌}
-use native.Mathlib.Omega.{arith}
-use mathlib.Core.Path.{◌≡◌, refl, sym}
+use Prim.Native.Nat.{◌-◌, ◌≤◌}
+use mathlib.Core.Path.{◌≡◌}
 use mathlib.Core.Bool.{true}
-use borrow.Author.Rules.{rules}
 use Rattle.rules.specs.Choice.{all}
 use Rattle.rules.specs.WellFormed.{entry_fits}
-use Rattle.rules.proofs.Logic.{found_false, found_true}
-use Rattle.rules.proofs.Walks.{all_next, all_fails}
 use Rattle.entries_fit.proofs.entries_fit.Given as goal
 
 abbrev pub invariant-loop-e : goal.invariant-loop-e

@@ -1,5 +1,4 @@
 -- `entries_fit::entry_fits` meets its contract: the clauses are the rule's, in its order.
-use borrow.Author.Rules.{rules}
 use Rattle.rules.specs.WellFormed.{entry_fits}
 use Rattle.rules.proofs.Logic.{and_stops, and_goes}
 use Rattle.entries_fit.proofs.entry_fits.Goals as goal

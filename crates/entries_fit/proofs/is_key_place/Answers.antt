@@ -1,7 +1,6 @@
 -- `entries_fit::is_key_place` meets its contract: the three tests are the rule's.
 use mathlib.Core.Path.{refl}
 use borrow.Author.Tests.{le-leb, lt-leb}
-use borrow.Author.Rules.{rules}
 use Rattle.rules.specs.WellFormed.{is_key_place}
 use Rattle.entries_fit.proofs.is_key_place.Goals as goal
 

@@ -1,7 +1,6 @@
 -- `entries_fit::length_fits` meets its contract: the two tests are the rule's.
 use mathlib.Core.Path.{refl}
 use borrow.Author.Tests.{eq-eqb, ne_eqb}
-use borrow.Author.Rules.{rules}
 use Rattle.rules.specs.Terms.{longest}
 use Rattle.rules.specs.WellFormed.{length_fits}
 use Rattle.entries_fit.proofs.length_fits.Goals as goal

@@ -2,7 +2,6 @@
 use native.Mathlib.Omega.{arith}
 use mathlib.Core.Path.{refl}
 use borrow.Author.Tests.{ne_eqb}
-use borrow.Author.Rules.{rules}
 use Rattle.rules.specs.Terms.{term_at, length_of, datum_length, nonce_length, list_length, ciphertext_length, secret_key_length, public_key_length}
 use Rattle.entries_fit.proofs.length_of.Goals as goal
 

@@ -1,7 +1,6 @@
 -- `entries_fit::list_fits` meets its contract: only a list's elements matter.
 use mathlib.Core.Path.{refl}
 use borrow.Author.Tests.{eq-eqb, ne_eqb}
-use borrow.Author.Rules.{rules}
 use Rattle.rules.specs.WellFormed.{list_fits}
 use Rattle.entries_fit.proofs.list_fits.Goals as goal
 

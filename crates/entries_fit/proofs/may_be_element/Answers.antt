@@ -1,6 +1,5 @@
 -- `entries_fit::may_be_element` meets its contract: the two tests are the rule's.
 use mathlib.Core.Path.{refl}
-use borrow.Author.Rules.{rules}
 use Rattle.rules.specs.WellFormed.{may_be_element}
 use Rattle.rules.proofs.Logic.{and_stops, and_goes}
 use Rattle.entries_fit.proofs.may_be_element.Goals as goal

@@ -3,7 +3,6 @@ use Prim.Native.Nat.{ℕ, ◌+◌, ◌*◌}
 use native.Mathlib.Omega.{arith}
 use mathlib.Core.Path.{◌≡◌, refl}
 use lib.ListN.{get_or}
-use borrow.Author.Rules.{rules}
 use Rattle.rules.specs.Table.{Table, row_width, word}
 use Rattle.entries_fit.proofs.read_row.Goals as goal
 

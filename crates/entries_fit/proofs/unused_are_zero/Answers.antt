@@ -1,5 +1,4 @@
 -- `entries_fit::unused_are_zero` meets its contract: the four arguments are tested in order.
-use borrow.Author.Rules.{rules}
 use Rattle.rules.proofs.Logic.{and_stops, and_goes}
 use Rattle.entries_fit.proofs.Elements.{unused_are}
 use Rattle.entries_fit.proofs.unused_are_zero.Goals as goal

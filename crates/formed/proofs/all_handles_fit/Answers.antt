@@ -1,14 +1,9 @@
 -- `formed::all_handles_fit` meets its contract: the handles are counted, and when knower k is reached those of all below it fit.
 --
-use Prim.Native.Nat.{ℕ, ◌+◌, ◌-◌, ◌≤◌, ◌<◌}
 use native.Mathlib.Omega.{arith}
-use mathlib.Core.Path.{◌≡◌, sym}
-use mathlib.Core.Bool.{true}
+use mathlib.Core.Path.{sym}
 use borrow.Author.Count.{below_more}
-use borrow.Author.Tests.{not-false}
-use borrow.Author.Rules.{rules}
 use Rattle.rules.specs.Handles.{held}
-use Rattle.rules.specs.WellFormed.{handles_fit}
 use Rattle.rules.proofs.Logic.{found_false, found_true}
 use Rattle.rules.proofs.Words.{most_high}
 use Rattle.rules.proofs.Formed.{knower_at, knower_from, knower_fails}

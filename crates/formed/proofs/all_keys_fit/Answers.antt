@@ -1,11 +1,8 @@
 -- `formed::all_keys_fit` meets its contract: when participant p is reached the keys of all up to p fit.
-use Prim.Native.Nat.{◌+◌, ◌-◌, ◌≤◌}
+use Prim.Native.Nat.{◌+◌}
 use native.Mathlib.Omega.{arith}
 use mathlib.Core.Path.{◌≡◌, refl, sym}
-use mathlib.Core.Bool.{true}
-use borrow.Author.Rules.{rules}
 use Rattle.rules.specs.Choice.{all}
-use Rattle.rules.specs.WellFormed.{keys_fit}
 use Rattle.rules.proofs.Logic.{found_false, found_true}
 use Rattle.rules.proofs.Walks.{all_next, all_fails}
 use Rattle.formed.proofs.all_keys_fit.Goals as goal

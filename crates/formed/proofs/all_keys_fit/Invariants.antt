@@ -1,13 +1,9 @@
 -- `formed::all_keys_fit` meets its contract: when participant p is reached the keys of all up to p fit.
-use Prim.Native.Nat.{◌+◌, ◌-◌, ◌≤◌}
-use native.Mathlib.Omega.{arith}
-use mathlib.Core.Path.{◌≡◌, refl, sym}
+use Prim.Native.Nat.{◌-◌, ◌≤◌}
+use mathlib.Core.Path.{◌≡◌}
 use mathlib.Core.Bool.{true}
-use borrow.Author.Rules.{rules}
 use Rattle.rules.specs.Choice.{all}
 use Rattle.rules.specs.WellFormed.{keys_fit}
-use Rattle.rules.proofs.Logic.{found_false, found_true}
-use Rattle.rules.proofs.Walks.{all_next, all_fails}
 use Rattle.formed.proofs.all_keys_fit.Given as goal
 
 abbrev pub invariant-loop-p : goal.invariant-loop-p

@@ -2,7 +2,6 @@
 use mathlib.Core.Path.{sym}
 use Rattle.rules.specs.WellFormed.{handles_fit}
 use Rattle.rules.proofs.Logic.{and_true, and_stops, and_goes}
-use borrow.Author.Rules.{rules}
 use Rattle.formed.proofs.handles_fit.Goals as goal
 
 pub returns-then-not-holding_fits : goal.returns-then-not-holding_fits

@@ -1,7 +1,6 @@
 -- `formed::head_fits` meets its contract: the tests are the rule's, in its order.
 use mathlib.Core.Path.{refl}
 use borrow.Author.Tests.{eq-eqb, ne_eqb}
-use borrow.Author.Rules.{rules}
 use Rattle.rules.specs.Table.{this_version}
 use Rattle.rules.specs.WellFormed.{head_fits}
 use Rattle.rules.proofs.Logic.{and_stops, and_goes}

@@ -1,6 +1,5 @@
 -- `formed::held_as_named` meets its contract: what is named where it holds, its opposite where it doesn't.
 use mathlib.Core.Path.{refl}
-use borrow.Author.Rules.{rules}
 use Rattle.rules.proofs.Logic.{agree_false}
 use Rattle.formed.proofs.held_as_named.Goals as goal
 

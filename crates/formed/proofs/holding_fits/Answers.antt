@@ -1,6 +1,5 @@
 -- `formed::holding_fits` meets its contract: the two tests are the rule's.
 use mathlib.Core.Path.{refl}
-use borrow.Author.Rules.{rules}
 use Rattle.formed.proofs.holding_fits.Goals as goal
 
 pub returns-then-may_hold : goal.returns-then-may_hold

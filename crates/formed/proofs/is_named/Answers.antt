@@ -1,5 +1,4 @@
 -- `formed::is_named` meets its contract: the test of the type is the definition's.
-use borrow.Author.Rules.{rules}
 use borrow.Author.Tests.{eq-eqb, ne_eqb}
 use Rattle.formed.specs.Keys.{named_for}
 use Rattle.formed.proofs.is_named.Goals as goal

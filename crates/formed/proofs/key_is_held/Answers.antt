@@ -1,16 +1,11 @@
 -- `formed::key_is_held` meets its contract: when knower k is reached all below it hold the key as named.
-use Prim.Native.Nat.{ℕ, ◌+◌, ◌-◌, ◌≤◌, ◌<◌}
 use native.Mathlib.Omega.{arith}
-use mathlib.Core.Path.{◌≡◌, sym}
-use mathlib.Core.Bool.{true}
+use mathlib.Core.Path.{sym}
 use borrow.Author.Count.{below_more}
-use borrow.Author.Rules.{rules}
-use Rattle.rules.specs.Table.{word}
 use Rattle.rules.specs.WellFormed.{held_as_named}
 use Rattle.rules.proofs.Logic.{found_false, found_true}
 use Rattle.rules.proofs.Words.{most_high}
 use Rattle.rules.proofs.Formed.{knower_from, knower_fails}
-use Rattle.formed.specs.Keys.{named_for}
 use Rattle.formed.proofs.key_is_held.Goals as goal
 
 pub loop-k-init : goal.loop-k-init
@@ -33,12 +28,12 @@ overflow_add-k c =
 
 pub loop-k-preserved : goal.loop-k-preserved
 unfolding held_as_named
-loop-k-preserved c =  (
-      omega arith,
-      below_more _ _ c.loop-k.invariant.1
-          (found_true (rw (c.is_named.ensures, c.mask-mask.ensures) at c.held_as_named.ensures)
-          c.if-not-held_as_named.false),
-    )
+loop-k-preserved c = (
+  omega arith,
+  below_more _ _ c.loop-k.invariant.1
+      (found_true (rw (c.is_named.ensures, c.mask-mask.ensures) at c.held_as_named.ensures)
+      c.if-not-held_as_named.false),
+)
 
 pub returns : goal.returns
 returns c = sym (knower_from _ _ (λ j l. c.loop-k.invariant.1 j (omega (arith, c.most-last.ensures))))

@@ -1,15 +1,9 @@
 -- `formed::key_is_held` meets its contract: when knower k is reached all below it hold the key as named.
 use Prim.Native.Nat.{ℕ, ◌+◌, ◌-◌, ◌≤◌, ◌<◌}
-use native.Mathlib.Omega.{arith}
-use mathlib.Core.Path.{◌≡◌, sym}
+use mathlib.Core.Path.{◌≡◌}
 use mathlib.Core.Bool.{true}
-use borrow.Author.Count.{below_more}
-use borrow.Author.Rules.{rules}
 use Rattle.rules.specs.Table.{word}
 use Rattle.rules.specs.WellFormed.{held_as_named}
-use Rattle.rules.proofs.Logic.{found_false, found_true}
-use Rattle.rules.proofs.Words.{most_high}
-use Rattle.rules.proofs.Formed.{knower_from, knower_fails}
 use Rattle.formed.specs.Keys.{named_for}
 use Rattle.formed.proofs.key_is_held.Given as goal
 

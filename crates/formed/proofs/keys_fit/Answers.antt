@@ -2,7 +2,6 @@
 use Prim.Native.Nat.{ℕ}
 use native.Mathlib.Omega.{arith}
 use mathlib.Core.Path.{◌≡◌, refl, ◌∙◌}
-use borrow.Author.Rules.{rules}
 use Rattle.rules.specs.Table.{Table}
 use Rattle.rules.specs.Terms.{secret_key_type, public_key_type, secret_key_of, public_key_of}
 use Rattle.rules.specs.WellFormed.{is_secret_key_of, is_public_key_of, keys_fit}

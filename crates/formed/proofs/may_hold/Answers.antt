@@ -1,7 +1,6 @@
 -- `formed::may_hold` meets its contract: the tests are the rule's.
 use mathlib.Core.Path.{refl}
 use borrow.Author.Tests.{eq-eqb, ne_eqb}
-use borrow.Author.Rules.{rules}
 use Rattle.rules.specs.WellFormed.{may_hold}
 use Rattle.formed.proofs.may_hold.Goals as goal
 

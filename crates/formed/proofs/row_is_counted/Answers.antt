@@ -1,15 +1,13 @@
 -- `formed::row_is_counted` meets its contract: when knower k is reached the handles of all before it are counted, and the flag says whether
 -- they are below.
-use Prim.Native.Nat.{◌+◌, ◌-◌, ◌≤◌}
+use Prim.Native.Nat.{◌+◌}
 use native.Mathlib.Omega.{arith}
 use mathlib.Core.Path.{refl}
-use borrow.Author.Rules.{rules}
 use Rattle.rules.specs.Handles.{holds}
 use Rattle.rules.proofs.Words.{most_high}
 use Rattle.rules.proofs.Walks.{count_le}
 use Rattle.rows.proofs.Places.{place_low}
-use Rattle.formed.specs.Counts.{handle_is_below_at}
-use Rattle.formed.proofs.Counting.{Turned, turned, Passed, each, passed_next, passed_all, below_is, one_more}
+use Rattle.formed.proofs.Counting.{turned, each, passed_next, passed_all, below_is, one_more}
 use Rattle.formed.proofs.row_is_counted.Goals as goal
 
 pub overflow_mul-from : goal.overflow_mul-from
@@ -79,4 +77,4 @@ loop-k-preserved c =
     (omega arith, passed_next _ _ below c.still_below-below.ensures c.loop-k.invariant.1, turned t c.args.e c.loop-k.k _ _ known one c.loop-k.invariant.2)
 
 pub returns : goal.returns
-returns c =  record { below = passed_all _ _ c.loop-k.k (omega (arith, c.most-most.ensures)) c.loop-k.invariant.1; counts = record { long = c.loop-k.invariant.2.long; at = λ j l. c.loop-k.invariant.2.done j (omega (arith, c.most-most.ensures)) } }
+returns c = record { below = passed_all _ _ c.loop-k.k (omega (arith, c.most-most.ensures)) c.loop-k.invariant.1; counts = record { long = c.loop-k.invariant.2.long; at = λ j l. c.loop-k.invariant.2.done j (omega (arith, c.most-most.ensures)) } }

@@ -1,15 +1,8 @@
 -- `formed::row_is_counted` meets its contract: when knower k is reached the handles of all before it are counted, and the flag says whether
 -- they are below.
 use Prim.Native.Nat.{◌+◌, ◌-◌, ◌≤◌}
-use native.Mathlib.Omega.{arith}
-use mathlib.Core.Path.{refl}
-use borrow.Author.Rules.{rules}
-use Rattle.rules.specs.Handles.{holds}
-use Rattle.rules.proofs.Words.{most_high}
-use Rattle.rules.proofs.Walks.{count_le}
-use Rattle.rows.proofs.Places.{place_low}
 use Rattle.formed.specs.Counts.{handle_is_below_at}
-use Rattle.formed.proofs.Counting.{Turned, turned, Passed, each, passed_next, passed_all, below_is, one_more}
+use Rattle.formed.proofs.Counting.{Turned, Passed}
 use Rattle.formed.proofs.row_is_counted.Given as goal
 
 abbrev pub invariant-loop-k : goal.invariant-loop-k

@@ -3,7 +3,6 @@ use Prim.Native.Nat.{◌<◌}
 use native.Mathlib.Omega.{arith}
 use mathlib.Core.Path.{refl}
 use borrow.Author.Tests.{le-leb, lt-leb}
-use borrow.Author.Rules.{rules}
 use Rattle.rules.specs.WellFormed.{run_is_long}
 use Rattle.rules.proofs.Words.{most_high}
 use Rattle.rules.proofs.Formed.{words_for_lem}

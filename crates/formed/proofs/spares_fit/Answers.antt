@@ -2,7 +2,6 @@
 use native.Mathlib.Omega.{arith}
 use mathlib.Core.Path.{refl}
 use borrow.Author.Tests.{eq-eqb, ne_eqb}
-use borrow.Author.Rules.{rules}
 use Rattle.rules.specs.Table.{spares_fit}
 use Rattle.rules.proofs.Words.{most_high}
 use Rattle.formed.proofs.spares_fit.Goals as goal
@@ -20,9 +19,9 @@ overflow_add-most-2 c = omega (arith, c.most-most.ensures, most_high c.args.t.no
 pub returns : goal.returns
 unfolding spares_fit
 returns c = rw (
-      ← c.most-most.ensures,
-      ← c.word.ensures,
-      eq-eqb _ 0 c.if-word-ne0.false,
-      c.word-2.ensures,
-    )
+  ← c.most-most.ensures,
+  ← c.word.ensures,
+  eq-eqb _ 0 c.if-word-ne0.false,
+  c.word-2.ensures,
+)
     refl

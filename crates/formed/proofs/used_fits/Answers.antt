@@ -2,7 +2,6 @@
 use Prim.Native.Nat.{◌*◌, ◌≤◌, ◌<◌}
 use mathlib.Core.Path.{refl}
 use borrow.Author.Tests.{le-leb, lt-leb}
-use borrow.Author.Rules.{rules}
 use Rattle.rules.specs.WellFormed.{used_fits}
 use Rattle.formed.proofs.used_fits.Goals as goal
 

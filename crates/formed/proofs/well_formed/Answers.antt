@@ -1,6 +1,5 @@
 -- `formed::well_formed` meets its contract: the clauses are the rule's, in its order, by the second the participants are few,
 -- and by the first and the third the used rows lie in the run.
-use borrow.Author.Rules.{rules}
 use Rattle.rules.specs.WellFormed.{well_formed}
 use Rattle.rules.proofs.Logic.{found_true, and_stops, and_goes}
 use Rattle.rules.proofs.Shaping.{head_plain}

@@ -1,7 +1,6 @@
 -- `handles::grant` meets its contract: it goes the rule's way, word by word.
 use mathlib.Core.Path.{sym, ◌∙◌}
 use Rattle.rules.proofs.Granting.{grant_held, grant_goes}
-use borrow.Author.Rules.{rules}
 use Rattle.handles.proofs.grant.Goals as goal
 
 pub returns-then-holds : goal.returns-then-holds

@@ -4,7 +4,6 @@ use native.Mathlib.Omega.{arith}
 use mathlib.Core.Path.{sym, ◌∙◌}
 use Rattle.rules.proofs.Words.{most_high}
 use Rattle.rules.proofs.Granting.{handle_in, handle_out}
-use borrow.Author.Rules.{rules}
 use Rattle.handles.proofs.handle.Goals as goal
 
 pub returns-then-most-k : goal.returns-then-most-k

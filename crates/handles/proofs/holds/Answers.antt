@@ -1,7 +1,6 @@
 -- `handles::holds` meets its contract: the same test of the same word.
 use mathlib.Core.Path.{refl}
 use Rattle.rules.specs.Handles.{holds}
-use borrow.Author.Rules.{rules}
 use Rattle.handles.proofs.holds.Goals as goal
 
 pub returns : goal.returns

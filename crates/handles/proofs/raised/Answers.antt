@@ -2,7 +2,6 @@
 use mathlib.Core.Path.{refl}
 use borrow.Author.Tests.{lt-ltb, le-ltb}
 use Rattle.rules.specs.Table.{largest, raised}
-use borrow.Author.Rules.{rules}
 use Rattle.handles.proofs.raised.Goals as goal
 
 pub returns-then-n-lt65535 : goal.returns-then-n-lt65535

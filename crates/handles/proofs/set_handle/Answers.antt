@@ -4,7 +4,6 @@ use mathlib.Core.Path.{refl, sym, ◌∙◌}
 use borrow.Author.Tests.{le-leb, lt-leb}
 use Rattle.rules.specs.Table.{set_handle}
 use Rattle.rules.proofs.Words.{most_high}
-use borrow.Author.Rules.{rules}
 use Rattle.handles.proofs.set_handle.Goals as goal
 
 pub returns-then-most-k : goal.returns-then-most-k

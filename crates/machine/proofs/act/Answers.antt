@@ -2,7 +2,6 @@
 use Rattle.rules.specs.Machine.{act, untested}
 use Rattle.rules.specs.Meaning.{asked}
 use Rattle.machine.proofs.Acting.{parse_table}
-use borrow.Author.Rules.{rules}
 use Rattle.machine.proofs.act.Goals as goal
 
 pub returns-in-SetUp-clause-answer : goal.returns-in-SetUp-clause-answer

@@ -2,7 +2,6 @@
 use mathlib.Core.Path.{refl}
 use Rattle.rules.specs.Meaning.{asked}
 use Rattle.machine.specs.SetUps.{is_set_up}
-use borrow.Author.Rules.{rules}
 use Rattle.machine.proofs.is_set_up.Goals as goal
 
 pub returns-in-SetUp : goal.returns-in-SetUp

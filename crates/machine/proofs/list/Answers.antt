@@ -1,5 +1,4 @@
 -- `machine::list` meets its contract: it is performed under its name.
-use borrow.Author.Rules.{rules}
 use Rattle.rules.specs.Machine.{perform}
 use Rattle.rules.specs.Meaning.{asked}
 use Rattle.machine.proofs.list.Goals as goal

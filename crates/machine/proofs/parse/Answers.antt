@@ -1,11 +1,9 @@
 -- `machine::parse` meets its contract: refused with 1 unless the table is well formed, and else the command's.
 use mathlib.Core.Path.{sym, ap, ◌∙◌}
-use borrow.Author.Tests.{not-true, not-false}
 use Rattle.rules.specs.Outcome.{Outcome}
 use Rattle.rules.specs.Machine.{act}
 use Rattle.rules.specs.Meaning.{said}
 use Rattle.rules.proofs.Keeps.{not_formed, is_formed}
-use borrow.Author.Rules.{rules}
 use Rattle.machine.proofs.parse.Goals as goal
 
 pub returns-then-not-well_formed : goal.returns-then-not-well_formed

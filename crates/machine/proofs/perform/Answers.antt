@@ -1,7 +1,5 @@
 -- `machine::perform` meets its contract: a set-up tests nothing, a request refuses with 1 or acts, by what the test says.
 use mathlib.Core.Path.{refl, sym, ◌∙◌}
-use borrow.Author.Rules.{rules}
-use borrow.Author.Tests.{not-true, not-false}
 use Rattle.rules.specs.Meaning.{said}
 use Rattle.machine.proofs.Acting.{known_formed, known_set_up, known_refused}
 use Rattle.machine.proofs.perform.Goals as goal

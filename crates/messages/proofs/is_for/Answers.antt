@@ -3,7 +3,6 @@ use mathlib.Core.Path.{refl}
 use borrow.Author.Tests.{eq-eqb, ne_eqb}
 use Rattle.rules.specs.Terms.{public_key_of}
 use Rattle.rules.specs.Steps.{is_for}
-use borrow.Author.Rules.{rules}
 use Rattle.messages.proofs.is_for.Goals as goal
 
 pub returns-then-kind-ne4 : goal.returns-then-kind-ne4

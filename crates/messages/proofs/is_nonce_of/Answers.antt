@@ -3,7 +3,6 @@ use mathlib.Core.Path.{◌≡◌, refl, sym, ◌∙◌}
 use borrow.Author.Tests.{eq-eqb, ne_eqb}
 use Rattle.rules.specs.Table.{argument}
 use Rattle.rules.specs.Terms.{is_nonce_of}
-use borrow.Author.Rules.{rules}
 use Rattle.messages.proofs.is_nonce_of.Goals as goal
 
 pub returns-then-kind-ne2 : goal.returns-then-kind-ne2

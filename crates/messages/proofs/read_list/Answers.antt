@@ -4,7 +4,6 @@ use mathlib.Core.Path.{refl}
 use borrow.Author.Tests.{eq-eqb, ne_eqb, le-leb, lt-leb}
 use Rattle.rules.specs.Steps.{read_list}
 use Rattle.messages.specs.Reading.{read_as}
-use borrow.Author.Rules.{rules}
 use Rattle.messages.proofs.read_list.Goals as goal
 
 pub returns-in-1 : goal.returns-in-1

@@ -1,11 +1,9 @@
 -- `messages::read_message` meets its contract: what is sealed for r is read, all else is none.
 use mathlib.Core.Path.{◌≡◌, refl, sym, ◌∙◌}
 use mathlib.Core.Bool.{true, false}
-use borrow.Author.Tests.{not-true, not-false}
 use Rattle.rules.specs.Table.{argument}
 use Rattle.rules.specs.Steps.{is_for, read_message}
 use Rattle.messages.specs.Reading.{read_as}
-use borrow.Author.Rules.{rules}
 use Rattle.messages.proofs.read_message.Goals as goal
 
 pub returns-then-not-is_for : goal.returns-then-not-is_for

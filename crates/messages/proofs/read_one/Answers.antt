@@ -1,9 +1,7 @@
 -- `messages::read_one` meets its contract: the test is the rule's.
 use mathlib.Core.Path.{refl}
-use borrow.Author.Tests.{not-true, not-false}
 use Rattle.rules.specs.Steps.{read_one}
 use Rattle.messages.specs.Reading.{taken_for, read_as}
-use borrow.Author.Rules.{rules}
 use Rattle.messages.proofs.read_one.Goals as goal
 
 pub returns-then-not-is_nonce_of : goal.returns-then-not-is_nonce_of

@@ -1,11 +1,9 @@
 -- `messages::read_two` meets its contract: the test is the rule's.
 use mathlib.Core.Path.{◌≡◌, refl, sym, ◌∙◌}
 use mathlib.Core.Bool.{true, false}
-use borrow.Author.Tests.{not-true, not-false}
 use Rattle.rules.specs.Terms.{is_datum_of}
 use Rattle.rules.specs.Steps.{read_two}
 use Rattle.messages.specs.Reading.{taken_for, read_as}
-use borrow.Author.Rules.{rules}
 use Rattle.messages.proofs.read_two.Goals as goal
 
 pub returns-then-not-is_datum_of : goal.returns-then-not-is_datum_of

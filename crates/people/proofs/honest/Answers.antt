@@ -1,7 +1,5 @@
 -- `people::honest` meets its contract: the two tests are the rule's.
 use mathlib.Core.Path.{refl}
-use borrow.Author.Tests.{not-true, not-false}
-use borrow.Author.Rules.{rules}
 use Rattle.rules.specs.Table.{honest}
 use Rattle.people.proofs.honest.Goals as goal
 

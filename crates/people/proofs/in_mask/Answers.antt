@@ -1,5 +1,4 @@
 -- `people::in_mask` meets its contract: before the i-th turn the mask's bits from i - 1 on are left.
-use Prim.Native.Nat.{◌-◌, ◌/◌, ◌^◌, ◌≤◌}
 use native.Mathlib.Omega.{arith}
 use mathlib.Core.Path.{◌≡◌, sym, ◌∙◌}
 use Rattle.people.proofs.Bits.{none_halved, once_halved, all_halved, nobody_masked, bit_left}

@@ -3,7 +3,6 @@ use Prim.Native.Nat.{◌≤◌, ◌<◌}
 use native.Mathlib.Omega.{arith}
 use mathlib.Core.Path.{refl}
 use borrow.Author.Tests.{le-leb, lt-leb}
-use borrow.Author.Rules.{rules}
 use Rattle.rules.specs.Table.{is_participant, participants}
 use Rattle.people.proofs.is_participant.Goals as goal
 

@@ -1,6 +1,5 @@
 -- `player::file_fits` meets its contract: the rule's three tests, in its order.
 use Rattle.player.proofs.WholeFile.{file_empty, file_long, file_version_lem}
-use borrow.Author.Rules.{rules}
 use Rattle.player.proofs.file_fits.Goals as goal
 
 pub returns-then-file-lt1 : goal.returns-then-file-lt1

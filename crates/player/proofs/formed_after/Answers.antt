@@ -2,7 +2,6 @@
 use mathlib.Core.Path.{refl}
 use Rattle.rules.specs.Meaning.{said}
 use Rattle.player.specs.Known.{formed_after}
-use borrow.Author.Rules.{rules}
 use Rattle.player.proofs.formed_after.Goals as goal
 
 pub returns-in-Ready : goal.returns-in-Ready

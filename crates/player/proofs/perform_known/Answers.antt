@@ -2,7 +2,6 @@
 use mathlib.Core.Path.{refl, sym, ◌∙◌}
 use Rattle.rules.specs.Meaning.{said}
 use Rattle.machine.proofs.Acting.{known_formed, known_set_up, known_refused}
-use borrow.Author.Rules.{rules}
 use Rattle.player.proofs.perform_known.Goals as goal
 
 pub returns-then-formed-clause-answer : goal.returns-then-formed-clause-answer

@@ -2,7 +2,6 @@
 -- and it is a file of bytes.
 use mathlib.Core.Path.{sym, ◌∙◌, ap}
 use native.Mathlib.Omega.{arith}
-use borrow.Author.Tests.{not-true, not-false}
 use Rattle.rules.specs.Session.{items_of}
 use Rattle.rules.specs.Player.{lines_from, answers_to}
 use Rattle.rules.specs.Meaning.{said}
@@ -12,7 +11,6 @@ use Rattle.rules.proofs.Bytes.{lines_within}
 use Rattle.rules.proofs.Sessions.{zeros_bad}
 use Rattle.text.proofs.Putting.{put_as}
 use Rattle.player.proofs.WholeFile.{unplayed, played_all, zeros}
-use borrow.Author.Rules.{rules}
 use Rattle.player.proofs.play.Goals as goal
 
 pub returns-then-not-file_fits : goal.returns-then-not-file_fits

@@ -1,19 +1,13 @@
 -- `player::records` meets its contract: after each record the lines that are done and those that are left are all of them.
 use Prim.Native.Nat.{ℕ, ◌-◌, ◌≤◌}
-use native.Mathlib.Omega.{arith}
-use mathlib.Core.Path.{◌≡◌, refl, sym, ◌∙◌}
-use mathlib.Core.List.{List, [], ◌++◌}
+use mathlib.Core.Path.{◌≡◌}
+use mathlib.Core.List.{List}
 use lib.ListN.{length}
-use borrow.Author.Rules.{rules}
-use borrow.Author.Tests.{not-true, not-false}
 use Rattle.rules.specs.WellFormed.{well_formed}
 use Rattle.rules.specs.Session.{items_of}
 use Rattle.rules.specs.Player.{lines_from, answers_to}
-use Rattle.rules.specs.Meaning.{said}
 use Rattle.text.specs.Put.{Put}
-use Rattle.text.proofs.Putting.{put_none, put_as, put_length, then}
-use Rattle.player.proofs.Knowing.{stays_known}
-use Rattle.player.proofs.Playing.{Left, begin, finish, at_end, at_malformed, onwards, misplaced, next_record}
+use Rattle.player.proofs.Playing.{Left}
 use Rattle.player.proofs.records.Given as goal
 
 abbrev pub invariant-loop-at : goal.invariant-loop-at

@@ -1,7 +1,6 @@
 -- `player::stands_right` meets its contract: a set-up stands first, a request anywhere else.
 use mathlib.Core.Path.{sym, ◌∙◌}
 use Rattle.player.proofs.Knowing.{stands_set_up, stands_request}
-use borrow.Author.Rules.{rules}
 use Rattle.player.proofs.stands_right.Goals as goal
 
 pub returns-then-is_set_up : goal.returns-then-is_set_up

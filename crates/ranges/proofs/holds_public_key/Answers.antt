@@ -1,6 +1,5 @@
 -- `ranges::holds_public_key` meets its contract: the tests are the rule's.
 use mathlib.Core.Path.{refl}
-use borrow.Author.Rules.{rules}
 use borrow.Author.Tests.{eq-eqb, ne_eqb}
 use Rattle.rules.specs.SetUp.{holds_public_key}
 use Rattle.ranges.proofs.holds_public_key.Goals as goal

@@ -1,8 +1,6 @@
 -- `ranges::mask_fits` meets its contract: with each participant the mask is halved, and whether it fits stays.
 use native.Mathlib.Omega.{arith}
 use mathlib.Core.Path.{◌≡◌, refl, ◌∙◌}
-use borrow.Author.Rules.{rules}
-use Rattle.rules.specs.SetUp.{mask_fits}
 use Rattle.ranges.proofs.Halving.{half_fits, none_left}
 use Rattle.ranges.proofs.mask_fits.Goals as goal
 

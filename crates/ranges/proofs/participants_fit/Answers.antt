@@ -1,6 +1,5 @@
 -- `ranges::participants_fit` meets its contract: the tests are the rule's.
 use mathlib.Core.Path.{refl}
-use borrow.Author.Rules.{rules}
 use borrow.Author.Tests.{le-leb, lt-leb}
 use Rattle.rules.specs.SetUp.{participants_fit}
 use Rattle.ranges.proofs.participants_fit.Goals as goal

@@ -1,6 +1,5 @@
 -- `room::give` meets its contract: the grant and then the handle, as in the rule.
 use mathlib.Core.Path.{ap}
-use borrow.Author.Rules.{rules}
 use Rattle.rules.specs.Outcome.{Outcome}
 use Rattle.rules.specs.Meaning.{said}
 use Rattle.room.proofs.Rooms.{given}

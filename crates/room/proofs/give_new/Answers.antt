@@ -1,7 +1,5 @@
 -- `room::give_new` meets its contract: too long is 9, no room is 10, else the new entry is given.
 use mathlib.Core.Path.{sym, ap, ◌∙◌}
-use borrow.Author.Rules.{rules}
-use borrow.Author.Tests.{not-true, not-false}
 use Rattle.rules.specs.Terms.{longest}
 use Rattle.rules.specs.Outcome.{Outcome}
 use Rattle.rules.specs.Meaning.{said}

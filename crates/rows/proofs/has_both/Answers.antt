@@ -1,6 +1,5 @@
 -- `rows::has_both` meets its contract: the two tests are the definition's.
 use mathlib.Core.Path.{refl}
-use borrow.Author.Rules.{rules}
 use borrow.Author.Tests.{eq-eqb, ne_eqb}
 use Rattle.rows.specs.Search.{has_both}
 use Rattle.rows.proofs.has_both.Goals as goal

@@ -1,6 +1,5 @@
 -- `rows::has_both_at` meets its contract: the second word is looked at only where the first is as it should be.
 use mathlib.Core.Path.{refl}
-use borrow.Author.Rules.{rules}
 use borrow.Author.Tests.{eq-eqb, ne_eqb}
 use Rattle.rows.proofs.has_both_at.Goals as goal
 

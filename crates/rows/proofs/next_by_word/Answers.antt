@@ -1,9 +1,7 @@
 -- `rows::next_by_word` meets its contract: when entry x is reached none above e up to x has both words.
-use Prim.Native.Nat.{◌-◌, ◌≤◌}
 use native.Mathlib.Omega.{arith}
 use borrow.Author.Rules.{rules}
 use Rattle.rules.specs.Meaning.{found_at}
-use Rattle.rows.specs.Search.{has_both, NoneTo}
 use Rattle.rows.proofs.Search.{none_yet, none_more, next_nothing, next_found}
 use Rattle.rows.proofs.next_by_word.Goals as goal
 

@@ -1,10 +1,9 @@
 -- `rows::pass_fours` meets its contract: a row is passed only where its word k isn't v.
-use Prim.Native.Nat.{ℕ, ◌+◌, ◌*◌, ◌-◌, ◌≤◌, ◌<◌}
+use Prim.Native.Nat.{ℕ, ◌+◌}
 use native.Mathlib.Omega.{arith}
 use mathlib.Core.Path.{◌≡◌}
 use mathlib.Core.Logic.{◌≢◌}
-use lib.ListN.{length, get_or}
-use borrow.Author.Rules.{rules}
+use lib.ListN.{get_or}
 use Rattle.rules.specs.Table.{Table, row_width}
 use Rattle.rules.proofs.Words.{most_high}
 use Rattle.rows.specs.Search.{Passes}

@@ -1,14 +1,7 @@
 -- `rows::pass_fours` meets its contract: a row is passed only where its word k isn't v.
-use Prim.Native.Nat.{ℕ, ◌+◌, ◌*◌, ◌-◌, ◌≤◌, ◌<◌}
-use native.Mathlib.Omega.{arith}
-use mathlib.Core.Path.{◌≡◌}
-use mathlib.Core.Logic.{◌≢◌}
-use lib.ListN.{length, get_or}
-use borrow.Author.Rules.{rules}
-use Rattle.rules.specs.Table.{Table, row_width}
-use Rattle.rules.proofs.Words.{most_high}
+use Prim.Native.Nat.{◌+◌, ◌*◌, ◌-◌, ◌≤◌, ◌<◌}
+use lib.ListN.{length}
 use Rattle.rows.specs.Search.{Passes}
-use Rattle.rows.proofs.Search.{passes_more}
 use Rattle.rows.proofs.pass_fours.Given as goal
 
 abbrev pub invariant-loop-at : goal.invariant-loop-at

@@ -2,7 +2,6 @@
 use Prim.Native.Nat.{◌<◌}
 use native.Mathlib.Omega.{arith}
 use mathlib.Core.Path.{sym}
-use borrow.Author.Rules.{rules}
 use Rattle.rules.specs.Table.{word}
 use Rattle.rules.proofs.Words.{word_past}
 use Rattle.rows.proofs.Places.{place_low}

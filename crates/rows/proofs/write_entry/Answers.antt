@@ -4,7 +4,6 @@ use native.Mathlib.Omega.{arith}
 use mathlib.Core.Path.{sym}
 use Rattle.rules.proofs.Words.{most_high}
 use Rattle.rows.proofs.Places.{place_low, row_filled, row_outside}
-use borrow.Author.Rules.{rules}
 use Rattle.rows.proofs.write_entry.Goals as goal
 
 pub overflow_mul-from : goal.overflow_mul-from

@@ -3,7 +3,6 @@ use native.Mathlib.Omega.{arith}
 use mathlib.Core.Path.{sym}
 use lib.ListN.{length-set}
 use Rattle.rows.proofs.Places.{filled_short, filled_long}
-use borrow.Author.Rules.{rules}
 use Rattle.rows.proofs.write_row.Goals as goal
 
 pub returns-then-row-lt7 : goal.returns-then-row-lt7

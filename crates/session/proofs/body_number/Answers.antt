@@ -1,7 +1,6 @@
 -- `session::body_number` meets its contract: a number that the body hasn't is 0 in the rule too.
 use borrow.Author.Tests.{le-leb, lt-leb}
 use Rattle.rules.specs.Session.{body_number}
-use borrow.Author.Rules.{rules}
 use Rattle.session.proofs.body_number.Goals as goal
 
 pub returns-then-k-i : goal.returns-then-k-i

@@ -1,7 +1,6 @@
 -- `session::byte_at` meets its contract: past the end the rule reads 0 too.
 use mathlib.Core.Path.{sym}
 use lib.ListN.{get_or-eq_default}
-use borrow.Author.Rules.{rules}
 use Rattle.session.proofs.byte_at.Goals as goal
 
 pub returns-else-at-file : goal.returns-else-at-file

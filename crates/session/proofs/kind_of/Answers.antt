@@ -2,7 +2,6 @@
 use mathlib.Core.Path.{refl}
 use Rattle.rules.specs.Session.{kind_of}
 use Rattle.rules.specs.Meaning.{asked}
-use borrow.Author.Rules.{rules}
 use Rattle.session.proofs.kind_of.Goals as goal
 
 pub returns-in-SetUp : goal.returns-in-SetUp

@@ -2,7 +2,6 @@
 use mathlib.Core.Path.{refl}
 use Rattle.rules.specs.Session.{number}
 use Rattle.session.proofs.Records.{number_past}
-use borrow.Author.Rules.{rules}
 use Rattle.session.proofs.number.Goals as goal
 
 pub returns-then-file-at : goal.returns-then-file-at

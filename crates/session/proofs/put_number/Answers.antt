@@ -4,7 +4,6 @@ use native.Mathlib.Numerals.{add-one}
 use mathlib.Core.Path.{refl}
 use lib.ListN.{length-set}
 use Rattle.rules.specs.Session.{two_bytes}
-use borrow.Author.Rules.{rules}
 use Rattle.session.proofs.put_number.Goals as goal
 
 pub bounds-out-at-2 : goal.bounds-out-at-2

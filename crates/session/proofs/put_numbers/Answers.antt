@@ -1,8 +1,5 @@
 -- `session::put_numbers` meets its contract: after i turns the first i numbers stand there.
-use Prim.Native.Nat.{◌≤◌, ◌-◌}
 use mathlib.Core.Path.{◌≡◌, refl}
-use lib.ListN.{length, take}
-use lib.Seq.{sets}
 use native.Mathlib.Omega.{arith}
 use Rattle.rules.specs.Session.{bytes_of}
 use Rattle.session.proofs.Records.{put_more}

@@ -6,7 +6,6 @@ use native.Mathlib.Omega.{arith}
 use lib.ListN.{get_or}
 use Rattle.rules.specs.Session.{body_lengths, is_within}
 use Rattle.rules.proofs.RoundTrip.{body_long, body_unfit}
-use borrow.Author.Rules.{rules}
 use Rattle.session.proofs.read_body.Goals as goal
 
 pub returns-then-file-b-clause-read : goal.returns-then-file-b-clause-read

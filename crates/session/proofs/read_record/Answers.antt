@@ -4,7 +4,6 @@ use lib.ListN.{length}
 use Rattle.rules.proofs.RoundTrip.{reads_end, reads_short, reads_body}
 use Rattle.session.specs.Session.{four_handles, read_as, beside}
 use Rattle.session.proofs.Records.{four_long}
-use borrow.Author.Rules.{rules}
 use Rattle.session.proofs.read_record.Goals as goal
 
 pub returns-then-file-at-clause-read : goal.returns-then-file-at-clause-read

@@ -1,7 +1,6 @@
 -- `session::record_at` meets its contract: the command and the handles beside it are the rule's record.
 use Rattle.session.specs.Session.{read_as}
 use Rattle.session.proofs.Records.{body_read}
-use borrow.Author.Rules.{rules}
 use Rattle.session.proofs.record_at.Goals as goal
 
 pub returns : goal.returns

@@ -2,11 +2,9 @@
 use native.Mathlib.Omega.{arith}
 use mathlib.Core.Path.{sym, ◌∙◌}
 use lib.ListN.{length-set}
-use borrow.Author.Tests.{not-true, not-false}
 use Rattle.rules.specs.Meaning.{asked}
 use Rattle.session.specs.Session.{written_as}
 use Rattle.session.proofs.Records.{count_small, count_long, write_none, write_short, write_all}
-use borrow.Author.Rules.{rules}
 use Rattle.session.proofs.write_record.Goals as goal
 
 pub returns-then-not-has_record : goal.returns-then-not-has_record

@@ -1,10 +1,7 @@
 -- `set_up::add_all_keys` meets its contract: after p turns the keys of participants 1 to p are there.
-use Prim.Native.Nat.{◌-◌, ◌≤◌}
 use native.Mathlib.Omega.{arith}
 use mathlib.Core.Path.{◌≡◌}
-use lib.ListN.{length}
 use borrow.Author.Rules.{rules}
-use Rattle.rules.specs.SetUp.{add_all_keys}
 use Rattle.set_up.proofs.Keys.{keys_none, keys_more}
 use Rattle.set_up.proofs.add_all_keys.Goals as goal
 

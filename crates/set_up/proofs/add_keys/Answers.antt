@@ -1,5 +1,4 @@
 -- `set_up::add_keys` meets its contract: it goes the rule's way, key by key.
-use borrow.Author.Rules.{rules}
 use Rattle.set_up.proofs.Keys.{keys_go}
 use Rattle.set_up.proofs.add_keys.Goals as goal
 

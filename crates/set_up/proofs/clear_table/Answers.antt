@@ -1,5 +1,4 @@
 -- `set_up::clear_table` meets its contract: the first part of the run is lent, cleared, and back.
-use borrow.Author.Rules.{rules}
 use Rattle.set_up.proofs.Emptying.{cleared}
 use Rattle.set_up.proofs.clear_table.Goals as goal
 

@@ -1,5 +1,4 @@
 -- `set_up::empty_table` meets its contract: it makes the stores of the rule's head on a cleared run.
-use borrow.Author.Rules.{rules}
 use Rattle.rules.specs.Table.{this_version}
 use Rattle.set_up.proofs.Emptying.{emptied}
 use Rattle.set_up.proofs.empty_table.Goals as goal

@@ -1,9 +1,7 @@
 -- `set_up::first_handles` meets its contract: after k turns the knowers below k have next handle 1.
-use Prim.Native.Nat.{◌+◌, ◌-◌, ◌≤◌}
+use Prim.Native.Nat.{◌+◌}
 use native.Mathlib.Omega.{arith}
 use mathlib.Core.Path.{◌≡◌, refl}
-use lib.ListN.{length, replicate}
-use lib.Seq.{sets}
 use borrow.Author.Rules.{rules}
 use Rattle.rules.specs.Table.{this_version, most_of}
 use Rattle.set_up.proofs.Words.{new_most_high}

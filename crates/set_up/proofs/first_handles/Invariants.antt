@@ -1,13 +1,8 @@
 -- `set_up::first_handles` meets its contract: after k turns the knowers below k have next handle 1.
-use Prim.Native.Nat.{◌+◌, ◌-◌, ◌≤◌}
-use native.Mathlib.Omega.{arith}
-use mathlib.Core.Path.{◌≡◌, refl}
+use Prim.Native.Nat.{◌-◌, ◌≤◌}
+use mathlib.Core.Path.{◌≡◌}
 use lib.ListN.{length, replicate}
 use lib.Seq.{sets}
-use borrow.Author.Rules.{rules}
-use Rattle.rules.specs.Table.{this_version, most_of}
-use Rattle.set_up.proofs.Words.{new_most_high}
-use Rattle.set_up.proofs.Emptying.{handle_more}
 use Rattle.set_up.proofs.first_handles.Given as goal
 
 abbrev pub invariant-loop-k : goal.invariant-loop-k

@@ -1,13 +1,11 @@
 -- `set_up::grant_public` meets its contract: after k turns those of the knowers below k that the test names have the entry.
-use Prim.Native.Nat.{ℕ, ◌+◌, ◌-◌, ◌≤◌}
+use Prim.Native.Nat.{ℕ, ◌+◌}
 use native.Mathlib.Omega.{arith}
 use mathlib.Core.Path.{◌≡◌, sym, ap, ◌∙◌}
-use mathlib.Core.Logic.{⊎_elim}
 use lib.ListN.{length}
 use borrow.Author.Rules.{rules}
-use Rattle.rules.specs.SetUp.{holds_public_key}
 use Rattle.rules.proofs.Words.{most_high}
-use Rattle.set_up.proofs.Granting.{granted_below, below_none, below_granted, below_passed, below_all}
+use Rattle.set_up.proofs.Granting.{below_none, below_granted, below_passed, below_all}
 use Rattle.set_up.proofs.grant_public.Goals as goal
 use Rattle.set_up.proofs.grant_public.Goals.{then-holds_public_key, else-holds_public_key}
 
@@ -23,7 +21,7 @@ loop-k-preserved c = let same = c.loop-k.invariant.1.0 in
     let done = c.loop-k.invariant.1.1 in
     let test = sym c.holds_public_key.ensures in
     elim c.if-holds_public_key.branch [
-      then-holds_public_key w ↦ (
+      | then-holds_public_key w ↦ (
         omega arith,
         (
           ap {B = ℕ} length w.t-is ∙ w.grant.auto.t ∙ same,

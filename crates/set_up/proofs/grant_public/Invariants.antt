@@ -1,13 +1,9 @@
 -- `set_up::grant_public` meets its contract: after k turns those of the knowers below k that the test names have the entry.
-use Prim.Native.Nat.{ℕ, ◌+◌, ◌-◌, ◌≤◌}
-use native.Mathlib.Omega.{arith}
-use mathlib.Core.Path.{◌≡◌, sym, ap, ◌∙◌}
-use mathlib.Core.Logic.{⊎_elim}
+use Prim.Native.Nat.{◌+◌, ◌-◌, ◌≤◌}
+use mathlib.Core.Path.{◌≡◌}
 use lib.ListN.{length}
-use borrow.Author.Rules.{rules}
 use Rattle.rules.specs.SetUp.{holds_public_key}
-use Rattle.rules.proofs.Words.{most_high}
-use Rattle.set_up.proofs.Granting.{granted_below, below_none, below_granted, below_passed, below_all}
+use Rattle.set_up.proofs.Granting.{granted_below}
 use Rattle.set_up.proofs.grant_public.Given as goal
 
 abbrev pub invariant-loop-k : goal.invariant-loop-k

@@ -1,6 +1,5 @@
 -- `set_up::secret_holder` meets its contract: the test is the definition's.
 use mathlib.Core.Path.{refl, sym, ◌∙◌}
-use borrow.Author.Rules.{rules}
 use Rattle.set_up.specs.Holder.{secret_holder}
 use Rattle.set_up.proofs.secret_holder.Goals as goal
 

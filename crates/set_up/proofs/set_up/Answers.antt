@@ -1,6 +1,5 @@
 -- `set_up::set_up` meets its contract: it goes the rule's way, and where the numbers or the run don't fit it does nothing.
 use mathlib.Core.Path.{sym, ◌∙◌}
-use borrow.Author.Rules.{rules}
 use Rattle.rules.proofs.AfterSetUp.{long}
 use Rattle.set_up.proofs.Whole.{ready_said, refused_said}
 use Rattle.set_up.proofs.set_up.Goals as goal

@@ -1,7 +1,5 @@
 -- `set_up::set_up_fits` meets its contract: the tests are the rule's, in its order.
 use mathlib.Core.Path.{refl, sym, ◌∙◌}
-use borrow.Author.Rules.{rules}
-use borrow.Author.Tests.{not-true, not-false}
 use Rattle.rules.specs.SetUp.{set_up_fits}
 use Rattle.set_up.proofs.set_up_fits.Goals as goal
 

@@ -1,7 +1,6 @@
 -- `set_up::words_for` meets its contract: the form is no wide one, so the product is small.
 use Prim.Native.Nat.{◌+◌, ◌≤◌, ◌<◌}
 use native.Mathlib.Omega.{arith}
-use borrow.Author.Rules.{rules}
 use Rattle.rules.specs.Table.{this_version, most_of, words_for}
 use Rattle.set_up.proofs.Words.{new_most_high, words_few}
 use Rattle.set_up.proofs.words_for.Goals as goal

@@ -2,7 +2,6 @@
 use native.Mathlib.Omega.{arith}
 use lib.ListN.{length-set}
 use Rattle.steps.proofs.Knowing.{known_more}
-use borrow.Author.Rules.{rules}
 use Rattle.steps.proofs.and_then.Goals as goal
 
 pub returns : goal.returns

@@ -3,7 +3,6 @@ use mathlib.Core.Path.{sym}
 use Rattle.rules.specs.Meaning.{said, found_at}
 use Rattle.rules.proofs.Needs.{halves, ends}
 use Rattle.steps.proofs.Delivers.{answers_first, answers_second, answers_third}
-use borrow.Author.Rules.{rules}
 use Rattle.steps.proofs.answer_message.Goals as goal
 
 pub returns-in-First : goal.returns-in-First

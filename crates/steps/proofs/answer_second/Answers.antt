@@ -4,7 +4,6 @@ use mathlib.Core.Path.{sym}
 use Rattle.rules.specs.Meaning.{said}
 use Rattle.rules.proofs.Needs.{halves, ends}
 use Rattle.steps.proofs.Sends.{sealed_low, alone_length_lem, second_not, second_goes}
-use borrow.Author.Rules.{rules}
 use Rattle.steps.proofs.answer_second.Goals as goal
 
 pub returns-then-refused-ne0 : goal.returns-then-refused-ne0

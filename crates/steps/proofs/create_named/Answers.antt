@@ -1,9 +1,7 @@
 -- `steps::create_named` meets its contract: three elements where something is repeated, else two.
 use mathlib.Core.Path.{◌∙◌}
-use Rattle.rules.specs.Terms.{create}
 use Rattle.rules.specs.Meaning.{found_at}
 use Rattle.steps.proofs.Sends.{list_three, list_two}
-use borrow.Author.Rules.{rules}
 use Rattle.steps.proofs.create_named.Goals as goal
 
 pub returns-in-At : goal.returns-in-At

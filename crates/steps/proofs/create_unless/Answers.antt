@@ -2,7 +2,6 @@
 use mathlib.Core.Path.{refl}
 use Rattle.rules.specs.Meaning.{found_at}
 use Rattle.steps.specs.Sending.{add_unless}
-use borrow.Author.Rules.{rules}
 use Rattle.steps.proofs.create_unless.Goals as goal
 
 pub returns-in-At : goal.returns-in-At

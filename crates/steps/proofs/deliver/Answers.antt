@@ -1,11 +1,9 @@
 -- `steps::deliver` meets its contract: who may not act and a handle that names nothing are refused, else the list is delivered.
 --
 use mathlib.Core.Path.{sym, ap, ◌∙◌}
-use borrow.Author.Tests.{not-true, not-false}
 use Rattle.rules.specs.Meaning.{said, found_at}
 use Rattle.rules.proofs.Needs.{halves, ends}
 use Rattle.steps.proofs.Delivers.{peer_low, deliver_not, deliver_unheld, deliver_held}
-use borrow.Author.Rules.{rules}
 use Rattle.steps.proofs.deliver.Goals as goal
 
 pub returns-then-not-may_act : goal.returns-then-not-may_act

@@ -5,7 +5,6 @@ use Rattle.rules.specs.Meaning.{said}
 use Rattle.rules.proofs.Needs.{halves, ends}
 use Rattle.messages.proofs.Read.{reads_none, reads_taken}
 use Rattle.steps.proofs.Delivers.{list_not, list_none, list_read}
-use borrow.Author.Rules.{rules}
 use Rattle.steps.proofs.deliver_list.Goals as goal
 
 pub returns-then-kind-ne3 : goal.returns-then-kind-ne3

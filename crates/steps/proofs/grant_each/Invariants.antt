@@ -1,13 +1,9 @@
 -- `steps::grant_each` meets its contract: after i turns the first i of the row are granted.
-use Prim.Native.Nat.{◌-◌, ◌≤◌, ◌<◌}
-use native.Mathlib.Omega.{arith}
-use mathlib.Core.Path.{◌≡◌, refl, sym, ◌∙◌}
+use Prim.Native.Nat.{◌-◌, ◌≤◌}
+use mathlib.Core.Path.{◌≡◌}
 use lib.ListN.{length, take}
 use Rattle.rules.specs.Handles.{grant_each}
 use Rattle.terms.specs.Elements.{numbers}
-use Rattle.steps.specs.Known.{known_in}
-use Rattle.steps.proofs.Knowing.{grants_none, grants_more}
-use borrow.Author.Rules.{rules}
 use Rattle.steps.proofs.grant_each.Given as goal
 
 abbrev pub invariant-loop-i : goal.invariant-loop-i

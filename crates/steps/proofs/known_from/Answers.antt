@@ -7,44 +7,43 @@ use Rattle.rules.specs.Terms.{elements}
 use Rattle.rules.specs.Steps.{opened}
 use Rattle.steps.specs.Known.{known_in}
 use Rattle.steps.proofs.Knowing.{first_three}
-use borrow.Author.Rules.{rules}
 use Rattle.steps.proofs.known_from.Goals as goal
 
 pub returns-in-0 : goal.returns-in-0
 unfolding known_in opened elements arguments
-returns-in-0 c =  (
-      record { room = refl; few = omega arith },
-      rw (← c.first.ensures, ← c.second.ensures, ← c.count.ensures, c.in-0.is) refl,
-    )
+returns-in-0 c = (
+  record { room = refl; few = omega arith },
+  rw (← c.first.ensures, ← c.second.ensures, ← c.count.ensures, c.in-0.is) refl,
+)
 
 pub returns-in-1 : goal.returns-in-1
 unfolding known_in opened elements arguments
-returns-in-1 c =  (
-      record { room = refl; few = omega arith },
-      rw (
-        ← c.first.ensures,
-        ← c.second.ensures,
-        ← c.first-2.ensures,
-        ← c.count.ensures,
-        c.in-1.is,
-      )
-          refl,
-    )
+returns-in-1 c = (
+  record { room = refl; few = omega arith },
+  rw (
+    ← c.first.ensures,
+    ← c.second.ensures,
+    ← c.first-2.ensures,
+    ← c.count.ensures,
+    c.in-1.is,
+  )
+      refl,
+)
 
 pub returns-in-2 : goal.returns-in-2
 unfolding known_in opened elements arguments
-returns-in-2 c =  (
-      record { room = refl; few = omega arith },
-      rw (
-        ← c.first.ensures,
-        ← c.second.ensures,
-        ← c.first-2.ensures,
-        ← c.second-2.ensures,
-        ← c.count.ensures,
-        c.in-2.is,
-      )
-          refl,
-    )
+returns-in-2 c = (
+  record { room = refl; few = omega arith },
+  rw (
+    ← c.first.ensures,
+    ← c.second.ensures,
+    ← c.first-2.ensures,
+    ← c.second-2.ensures,
+    ← c.count.ensures,
+    c.in-2.is,
+  )
+      refl,
+)
 
 pub returns-in_default : goal.returns-in_default
 unfolding known_in opened elements arguments

@@ -4,7 +4,6 @@ use mathlib.Core.Path.{sym}
 use Rattle.rules.proofs.Needs.{ends}
 use Rattle.steps.proofs.Knowing.{known_two}
 use Rattle.steps.proofs.Sends.{named_goes}
-use borrow.Author.Rules.{rules}
 use Rattle.steps.proofs.make_named.Goals as goal
 
 pub send-requires : goal.send-requires

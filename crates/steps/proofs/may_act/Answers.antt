@@ -1,8 +1,7 @@
 -- `steps::may_act` meets its contract: the four tests are the rule's.
 use mathlib.Core.Path.{refl}
-use borrow.Author.Tests.{eq-eqb, ne_eqb, not-true, not-false}
+use borrow.Author.Tests.{eq-eqb, ne_eqb}
 use Rattle.rules.specs.Steps.{may_act}
-use borrow.Author.Rules.{rules}
 use Rattle.steps.proofs.may_act.Goals as goal
 
 pub returns-then-not-is_participant : goal.returns-then-not-is_participant

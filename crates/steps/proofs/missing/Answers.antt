@@ -1,7 +1,6 @@
 -- `steps::missing` meets its contract: one where nothing was found, else none.
 use mathlib.Core.Path.{refl}
 use Rattle.rules.specs.Meaning.{found_at}
-use borrow.Author.Rules.{rules}
 use Rattle.steps.proofs.missing.Goals as goal
 
 pub returns-in-At : goal.returns-in-At

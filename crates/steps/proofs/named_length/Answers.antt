@@ -4,7 +4,6 @@ use Rattle.rules.specs.Choice.{sum_of}
 use Rattle.rules.specs.Terms.{list_length, nonce_length, datum_length}
 use Rattle.rules.specs.Steps.{named_length}
 use Rattle.rules.specs.Meaning.{found_at}
-use borrow.Author.Rules.{rules}
 use Rattle.steps.proofs.named_length.Goals as goal
 
 pub returns-in-At : goal.returns-in-At

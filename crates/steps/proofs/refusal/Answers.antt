@@ -1,8 +1,6 @@
 -- `steps::refusal` meets its contract: 9 comes before 10.
 use mathlib.Core.Path.{◌≡◌, refl}
 use mathlib.Core.Bool.{true, false}
-use borrow.Author.Tests.{not-true, not-false}
-use borrow.Author.Rules.{rules}
 use Rattle.steps.proofs.refusal.Goals as goal
 
 pub returns-then-not-short : goal.returns-then-not-short

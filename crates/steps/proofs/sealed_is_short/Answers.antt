@@ -7,7 +7,6 @@ use Rattle.rules.specs.Terms.{longest, list_length, ciphertext_length}
 use Rattle.rules.specs.Outcome.{is_short}
 use Rattle.rules.specs.Steps.{sealed_lengths}
 use Rattle.rules.proofs.Logic.{and_true}
-use borrow.Author.Rules.{rules}
 use Rattle.steps.proofs.sealed_is_short.Goals as goal
 
 pub returns-then-len-gt4095 : goal.returns-then-len-gt4095

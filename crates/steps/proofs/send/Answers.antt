@@ -4,7 +4,6 @@ use Rattle.rules.specs.Meaning.{said}
 use Rattle.rules.proofs.Needs.{halves}
 use Rattle.steps.proofs.Knowing.{known_three}
 use Rattle.steps.proofs.Sends.{send_goes}
-use borrow.Author.Rules.{rules}
 use Rattle.steps.proofs.send.Goals as goal
 
 pub and_then-requires-2 : goal.and_then-requires-2

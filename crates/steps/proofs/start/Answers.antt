@@ -4,7 +4,6 @@ use mathlib.Core.Path.{sym, ◌∙◌}
 use Rattle.rules.specs.Meaning.{said, found_at}
 use Rattle.rules.proofs.Needs.{halves, ends}
 use Rattle.steps.proofs.Delivers.{peer_low, start_not, start_goes}
-use borrow.Author.Rules.{rules}
 use Rattle.steps.proofs.start.Goals as goal
 
 pub send_named-requires : goal.send_named-requires

@@ -3,7 +3,6 @@ use Prim.Native.Nat.{ℕ, ◌+◌}
 use mathlib.Core.Path.{◌≡◌, ap, ◌∙◌}
 use mathlib.Core.List.{List, ◌++◌}
 use lib.ListN.{replicate}
-use borrow.Author.Rules.{rules}
 use Rattle.rules.specs.Table.{Table, most, raised, put, with_row}
 use Rattle.rules.specs.Terms.{new_entry, add_entry}
 use Rattle.terms.proofs.create.Goals as goal

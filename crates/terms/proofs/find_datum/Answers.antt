@@ -2,7 +2,6 @@
 use Prim.Native.Nat.{ℕ}
 use mathlib.Core.Path.{◌≡◌}
 use mathlib.Core.List.{List}
-use borrow.Author.Rules.{rules}
 use lib.Dec.{eqb}
 use Rattle.rules.specs.Table.{Table, type_at, argument}
 use Rattle.rules.specs.Terms.{data_type, is_datum_of, find_datum}

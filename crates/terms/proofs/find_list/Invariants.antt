@@ -1,21 +1,16 @@
 -- `terms::find_list` meets its contract: what has the list's sure words is gone through upwards, and when e is passed none up to e is that
 -- list; inside, when place k is reached the first k elements are alike, so the first difference shuts the entry out, and no difference
 -- makes it the lowest.
-use Prim.Native.Nat.{ℕ, ◌-◌, ◌≤◌, ◌<◌}
-use native.Mathlib.Omega.{arith}
-use mathlib.Core.Path.{◌≡◌, refl, sym, ◌∙◌}
-use mathlib.Core.Logic.{◌≢◌}
+use Prim.Native.Nat.{ℕ, ◌-◌, ◌≤◌}
+use mathlib.Core.Path.{◌≡◌}
 use mathlib.Core.Bool.{true}
-use lib.ListN.{length, take}
-use borrow.Author.Rules.{rules}
+use lib.ListN.{take}
 use Rattle.rules.specs.Choice.{lowest}
 use Rattle.rules.specs.Table.{used}
-use Rattle.rules.specs.Terms.{list_type, is_list_of, find_list}
-use Rattle.rules.specs.Meaning.{found_at}
+use Rattle.rules.specs.Terms.{is_list_of}
 use Rattle.rows.specs.Search.{has_both}
-use Rattle.rows.proofs.Search.{none_passes, next_used, next_passes, next_fails}
 use Rattle.terms.specs.Elements.{numbers}
-use Rattle.terms.proofs.Lists.{Alike, alike_none, alike_next, has_sure, other_type, other_count, other_element, the_list}
+use Rattle.terms.proofs.Lists.{Alike}
 use Rattle.terms.proofs.find_list.Given as goal
 
 abbrev pub invariant-loop-k : goal.invariant-loop-k

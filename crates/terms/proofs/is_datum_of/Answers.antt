@@ -1,7 +1,6 @@
 -- `terms::is_datum_of` meets its contract: the two tests are the rule's.
 use mathlib.Core.Path.{refl}
 use borrow.Author.Tests.{eq-eqb, ne_eqb}
-use borrow.Author.Rules.{rules}
 use Rattle.rules.specs.Terms.{is_datum_of}
 use Rattle.terms.proofs.is_datum_of.Goals as goal
 

@@ -1,6 +1,5 @@
 -- `terms::sure_place` meets its contract: the test is the definition's.
 use mathlib.Core.Path.{refl}
-use borrow.Author.Rules.{rules}
 use borrow.Author.Tests.{lt-ltb, le-ltb}
 use Rattle.terms.specs.Elements.{sure_place}
 use Rattle.terms.proofs.sure_place.Goals as goal

@@ -1,6 +1,5 @@
 -- `text::bounded` meets its contract: it is the lesser of the two.
 use native.Mathlib.Omega.{arith}
-use borrow.Author.Rules.{rules}
 use Rattle.text.proofs.bounded.Goals as goal
 
 pub returns-then-at-out : goal.returns-then-at-out

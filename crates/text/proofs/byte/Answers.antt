@@ -2,7 +2,6 @@
 use native.Mathlib.Omega.{arith}
 use mathlib.Core.Path.{refl, sym}
 use lib.Seq.{set_out}
-use borrow.Author.Rules.{rules}
 use Rattle.text.proofs.Putting.{put_one}
 use Rattle.text.proofs.byte.Goals as goal
 

@@ -1,12 +1,8 @@
 -- `text::cut` meets its contract: after i turns the first i bytes of the word are written.
-use Prim.Native.Nat.{◌-◌, ◌≤◌}
 use native.Mathlib.Omega.{arith}
 use mathlib.Core.Path.{refl}
-use lib.ListN.{length, take}
 use lib.Seq.{take_all}
-use borrow.Author.Rules.{rules}
-use Rattle.text.specs.Put.{Put}
-use Rattle.text.proofs.Putting.{put_length, more}
+use Rattle.text.proofs.Putting.{more}
 use Rattle.text.proofs.cut.Goals as goal
 
 pub loop-i-init : goal.loop-i-init

@@ -1,6 +1,5 @@
 -- `text::line` meets its contract: the record's number, then each answer's word and its values.
 use mathlib.Core.List.{[], ◌∷◌}
-use borrow.Author.Rules.{rules}
 use Rattle.rules.specs.Player.{ascii, word_of}
 use Rattle.rules.specs.Meaning.{said}
 use Rattle.text.proofs.Putting.{line_put}

@@ -1,5 +1,4 @@
 -- `text::no_value` meets its contract: without values a line ends with the line feed alone.
-use borrow.Author.Rules.{rules}
 use Rattle.text.proofs.Putting.{feed_put}
 use Rattle.text.proofs.no_value.Goals as goal
 

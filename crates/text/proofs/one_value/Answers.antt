@@ -1,5 +1,4 @@
 -- `text::one_value` meets its contract: the value, then the line feed.
-use borrow.Author.Rules.{rules}
 use Rattle.text.proofs.Putting.{values_put}
 use Rattle.text.proofs.one_value.Goals as goal
 

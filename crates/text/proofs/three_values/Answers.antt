@@ -1,5 +1,4 @@
 -- `text::three_values` meets its contract: the first value, then the others.
-use borrow.Author.Rules.{rules}
 use Rattle.text.proofs.Putting.{values_put}
 use Rattle.text.proofs.three_values.Goals as goal
 

@@ -1,5 +1,4 @@
 -- `text::two` meets its contract: one digit, then the other.
-use borrow.Author.Rules.{rules}
 use Rattle.text.proofs.Putting.{then}
 use Rattle.text.proofs.two.Goals as goal
 

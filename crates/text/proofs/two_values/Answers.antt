@@ -1,5 +1,4 @@
 -- `text::two_values` meets its contract: the first value, then the other.
-use borrow.Author.Rules.{rules}
 use Rattle.text.proofs.Putting.{values_put}
 use Rattle.text.proofs.two_values.Goals as goal
 

@@ -1,5 +1,4 @@
 -- `text::value` meets its contract: the space, then the number.
-use borrow.Author.Rules.{rules}
 use Rattle.text.proofs.Putting.{value_put}
 use Rattle.text.proofs.value.Goals as goal
 

@@ -1,13 +1,8 @@
 -- `text::word` meets its contract: if all fits, after i turns the first i bytes of the word are written, and else `cut` writes those that do.
 --
 use Prim.Native.Nat.{◌+◌, ◌-◌, ◌≤◌}
-use native.Mathlib.Omega.{arith}
-use mathlib.Core.Path.{◌≡◌, refl}
 use lib.ListN.{length, take}
-use lib.Seq.{take-length}
-use borrow.Author.Rules.{rules}
 use Rattle.text.specs.Put.{Put}
-use Rattle.text.proofs.Putting.{put_length, put_from, put_one, more}
 use Rattle.text.proofs.word.Given as goal
 
 abbrev pub invariant-loop-i : goal.invariant-loop-i
