@@ -1,4 +1,5 @@
 -- The four arguments of an entry, of which the count says how many are elements. Assumes nothing.
+use Rattle.std.specs.Prelude.{if◌then◌else◌}
 use Prim.Native.Nat.{ℕ, zero, suc, ◌+◌, ◌<◌}
 use native.Mathlib.Omega.{arith}
 use mathlib.Core.Path.{◌≡◌, refl}
@@ -7,7 +8,7 @@ use mathlib.Core.List.{List, [], ◌∷◌}
 use lib.Dec.{ltb}
 use lib.ListN.{take, drop}
 use borrow.Author.Tests.{lt-ltb}
-use Rattle.rules.specs.Choice.{◌and◌, ◌or◌, ◌implies◌, if◌then◌else◌, every, sum_of, is_zero}
+use Rattle.rules.specs.Choice.{◌and◌, ◌or◌, ◌implies◌, every, sum_of, is_zero}
 use Rattle.rules.specs.Table.{Table, arguments}
 use Rattle.rules.specs.Terms.{elements}
 use Rattle.rules.specs.WellFormed.{unused_are_zero}

@@ -1,8 +1,8 @@
 // What every used entry of a well-formed table has: type, count, arguments and length that fit each other (rules W5 to W10).
 #![tactic(auto)]
 
-ghost use Rattle.std.specs.Prelude.{◌≡◌, ◌+◌, ◌*◌, ◌<◌, ◌≤◌, ltb};
-ghost use Rattle.rules.specs.Choice.{◌or◌, ◌implies◌, if◌then◌else◌, all, every, sum_of, is_zero};
+ghost use Rattle.std.specs.Prelude.{◌≡◌, ◌+◌, ◌*◌, ◌<◌, ◌≤◌, ltb, if◌then◌else◌};
+ghost use Rattle.rules.specs.Choice.{◌or◌, ◌implies◌, all, every, sum_of, is_zero};
 ghost use Rattle.rules.specs.Table.{size, row_width, participants, used, length_at};
 ghost use Rattle.rules.specs.Terms.{elements, term_at, length_of};
 ghost use Rattle.rules.specs.WellFormed.{is_later_type, type_fits, count_of, count_fits, unused_are_zero, nonce_fits, is_earlier, may_be_element};

@@ -1,4 +1,5 @@
 -- Each knower's handles, counted row by row: the words that a turn reads, and the counts after it. Assumes nothing.
+use Rattle.std.specs.Prelude.{if◌then◌else◌}
 use Prim.Native.Nat.{ℕ, ◌+◌, ◌*◌, ◌≤◌, ◌<◌}
 use native.Mathlib.Nat.{mul-le-mul_left}
 use native.Mathlib.Omega.{arith}
@@ -11,7 +12,7 @@ use lib.ListN.{length, get_or, set, replicate, length-set, get_or-replicate}
 use lib.Seq.{get_or-set_same, get_or-set_other}
 use borrow.Author.Count.{below_more}
 use borrow.Author.Tests.{leb-true}
-use Rattle.rules.specs.Choice.{◌and◌, ◌or◌, if◌then◌else◌, count}
+use Rattle.rules.specs.Choice.{◌and◌, ◌or◌, count}
 use Rattle.rules.specs.Table.{Table, size, most, row_width, words_for, version, participants, capacity, word, used, next_handle, handle, every_knower}
 use Rattle.rules.specs.Handles.{holds, held}
 use Rattle.rules.specs.WellFormed.{run_is_long, used_fits, may_hold, handle_is_below, handles_fit}

@@ -1,6 +1,6 @@
 -- A participant's key of either type, so that one walk over the knowers serves both (rule W4).
-use Rattle.std.specs.Prelude.{ℕ, Bool, eqb}
-use Rattle.rules.specs.Choice.{◌and◌, if◌then◌else◌}
+use Rattle.std.specs.Prelude.{ℕ, Bool, eqb, if◌then◌else◌}
+use Rattle.rules.specs.Choice.{◌and◌}
 use Rattle.rules.specs.Table.{Table, mask, type_at, argument, every_knower}
 use Rattle.rules.specs.Terms.{secret_key_type}
 use Rattle.rules.specs.SetUp.{holds_secret_key, holds_public_key}

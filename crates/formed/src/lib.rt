@@ -1,8 +1,8 @@
 // The check that a table is well formed, on every run of numbers (rules W1 to W11; what each entry has to fit is in `entries_fit`).
 #![tactic(auto)]
 
-ghost use Rattle.std.specs.Prelude.{◌≡◌, true, not, ◌+◌, ◌*◌, ◌≤◌, ◌<◌, eqb, ltb};
-ghost use Rattle.rules.specs.Choice.{◌and◌, ◌or◌, if◌then◌else◌, agree, all};
+ghost use Rattle.std.specs.Prelude.{◌≡◌, true, not, ◌+◌, ◌*◌, ◌≤◌, ◌<◌, eqb, ltb, if◌then◌else◌};
+ghost use Rattle.rules.specs.Choice.{◌and◌, ◌or◌, agree, all};
 ghost use Rattle.rules.specs.Table.{size, most, row_width, participants, mask, used, spares_fit, in_mask, every_knower};
 ghost use Rattle.rules.specs.Handles.{holds, held};
 ghost use Rattle.rules.specs.SetUp.{holds_secret_key};

@@ -1,5 +1,6 @@
 -- Machines that must be shut out: nothing that meets the contract of `perform` is one of them. True since the contract leaves no choice and
 -- the rules meet it, so that whatever meets it answers and leaves what the rules do, which small tables show. Assumes nothing.
+use Rattle.std.specs.Prelude.{if◌then◌else◌}
 use Prim.Native.Nat.{ℕ, ◌+◌, ◌-◌, ◌*◌, ◌^◌, ◌≤◌}
 use native.Mathlib.Nat.{ℕ_set}
 use mathlib.Core.Path.{◌≡◌, refl, sym, ap, ◌∙◌}
@@ -14,7 +15,7 @@ use denote.Triple.Clauses.{Ended}
 use borrow.Author.Tests.{eqb-false, not-true}
 use Rattle.tight.specs.Tight.{Written}
 use Rattle.tight.specs.Meeting.{Inputs, Meeting, by_facts, agree}
-use Rattle.rules.specs.Choice.{◌and◌, if◌then◌else◌, every}
+use Rattle.rules.specs.Choice.{◌and◌, every}
 use Rattle.rules.specs.Table.{Table, this_version, most_of, most, words_for, largest, participants, used, handle, every_knower}
 use Rattle.rules.specs.Outcome.{sent, accepted}
 use Rattle.rules.specs.Machine.{Request, Record, Asks, perform}

@@ -1,12 +1,12 @@
 -- What the player keeps in mind is true: whether its table is well formed is known before and after each record, and so is what a record
 -- may be where it stands. Assumes nothing.
+use Rattle.std.specs.Prelude.{if◌then◌else◌}
 use Prim.Native.Nat.{ℕ}
 use mathlib.Core.Path.{◌≡◌, refl, sym, ◌∙◌}
 use mathlib.Core.Bool.{Bool, true, false, not}
 use mathlib.Core.List.{List}
 use lib.Dec.{eqb}
 use lib.ListN.{get_or}
-use Rattle.rules.specs.Choice.{if◌then◌else◌}
 use Rattle.rules.specs.Table.{Table, used}
 use Rattle.rules.specs.SetUp.{set_up_fits, set_up_table}
 use Rattle.rules.specs.WellFormed.{well_formed}

@@ -1,5 +1,6 @@
 -- The search of the used entries by two words: where it may stop, and what its answer says of any test that only such entries pass.
 -- Assumes nothing.
+use Rattle.std.specs.Prelude.{if◌then◌else◌}
 use Prim.Native.Nat.{ℕ, ◌+◌, ◌*◌, ◌/◌, ◌≤◌, ◌<◌}
 use native.Mathlib.Nat.{mul-suc, mul-le-mul_left, mul-div_cancel_left}
 use native.Mathlib.Numerals.{add-one}
@@ -12,7 +13,7 @@ use mathlib.Core.List.{[], ◌∷◌}
 use lib.Dec.{eqb, ltb}
 use borrow.Author.Tests.{ltb-true, lt-ltb, eq-eqb, ne_eqb}
 use lib.ListN.{get_or}
-use Rattle.rules.specs.Choice.{◌and◌, if◌then◌else◌, lowest}
+use Rattle.rules.specs.Choice.{◌and◌, lowest}
 use Rattle.rules.specs.Table.{Table, row_width, word, used}
 use Rattle.rules.specs.Meaning.{found_at, or_nothing}
 use Rattle.rules.specs.declared.Entry.{Entry}

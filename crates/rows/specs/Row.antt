@@ -1,6 +1,5 @@
 -- The numbers of one row as the code hands them over.
-use Rattle.std.specs.Prelude.{ℕ, ◌-◌, List, [], ◌∷◌, ◌++◌, leb, length, get_or, replicate}
-use Rattle.rules.specs.Choice.{if◌then◌else◌}
+use Rattle.std.specs.Prelude.{ℕ, ◌-◌, List, [], ◌∷◌, ◌++◌, leb, length, get_or, replicate, if◌then◌else◌}
 
 -- a term's seven numbers: type, count, four arguments, length
 unfoldable pub seven : ℕ → ℕ → List ℕ → ℕ → List ℕ

@@ -1,5 +1,6 @@
 -- What set-up leaves where it isn't refused, as plain facts: its head, the keys and nothing else, who holds them, and the words past the
 -- table. Assumes nothing.
+use Rattle.std.specs.Prelude.{if◌then◌else◌}
 use Prim.Native.Nat.{ℕ, ◌+◌, ◌*◌, ◌≤◌, ◌<◌}
 use native.Mathlib.Omega.{arith}
 use native.Mathlib.Decide.{dec_le}
@@ -11,7 +12,7 @@ use lib.Dec.{leb}
 use lib.ListN.{get_or, drop, length-drop}
 use lib.Seq.{ext_get_or, get_or-drop}
 use borrow.Author.Tests.{leb-true, ltb-true}
-use Rattle.rules.specs.Choice.{◌and◌, if◌then◌else◌}
+use Rattle.rules.specs.Choice.{◌and◌}
 use Rattle.rules.specs.Table.{Table, size, this_version, most_of, most, words_for, word, version, participants, mask, capacity, used, in_mask}
 use Rattle.rules.specs.Terms.{Term, secret_key, public_key, type_of, arguments_of, secret_key_type, public_key_type, secret_key_length, public_key_length, secret_key_of, public_key_of}
 use Rattle.rules.specs.Handles.{holds}

@@ -1,11 +1,11 @@
 -- Every answer of the rules is one of the seven words with its values, so some value of the code's `Answer` says it. True since set-up ends in
 -- `ready` or a refusal, and a request in an answer of another word or in a refusal. Assumes nothing.
+use Rattle.std.specs.Prelude.{if◌then◌else◌}
 use Prim.Native.Nat.{ℕ}
 use mathlib.Core.Path.{◌≡◌, refl}
 use mathlib.Core.Bool.{Bool, true, false}
 use mathlib.Core.List.{List, []}
 use lib.Dec.{eqb}
-use Rattle.rules.specs.Choice.{if◌then◌else◌}
 use Rattle.rules.specs.Table.{Table}
 use Rattle.rules.specs.Terms.{Term}
 use Rattle.rules.specs.SetUp.{set_up_fits}

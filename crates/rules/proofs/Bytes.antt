@@ -1,5 +1,6 @@
 -- How many bytes the lines of a file of bytes have: a record has at least 3 bytes, and its line at most 31, since its numbers are such as a
 -- word holds. Assumes nothing.
+use Rattle.std.specs.Prelude.{if◌then◌else◌}
 use Prim.Native.Nat.{ℕ, zero, suc, ◌+◌, ◌-◌, ◌*◌, ◌≤◌, ◌<◌}
 use native.Mathlib.Omega.{arith}
 use native.Mathlib.Decide.{dec_lt}
@@ -9,7 +10,7 @@ use mathlib.Core.List.{List, [], ◌∷◌, append-nil}
 use lib.Dec.{leb}
 use lib.ListN.{length, get_or, length-append}
 use borrow.Author.Tests.{leb-true}
-use Rattle.rules.specs.Choice.{◌and◌, if◌then◌else◌}
+use Rattle.rules.specs.Choice.{◌and◌}
 use Rattle.rules.specs.Table.{Table, this_version, words_for}
 use Rattle.rules.specs.Outcome.{refused}
 use Rattle.rules.specs.Machine.{Record, perform}

@@ -1,5 +1,6 @@
 -- What creating does, for every knower at once: it writes the new entry's row, which nobody holds, and the number of used entries, and
 -- no other word. Assumes nothing.
+use Rattle.std.specs.Prelude.{if◌then◌else◌}
 use Prim.Native.Nat.{ℕ, ◌+◌, ◌*◌, ◌≤◌, ◌<◌}
 use native.Mathlib.Omega.{arith}
 use native.Mathlib.Decide.{dec_lt, dec_le}
@@ -10,7 +11,6 @@ use lib.ListN.{length, get_or, take, replicate, length-append, length-replicate,
 use lib.Seq.{get_or-append-add}
 use lib.Dec.{ltb}
 use borrow.Author.Tests.{lt-ltb, le-ltb}
-use Rattle.rules.specs.Choice.{if◌then◌else◌}
 use Rattle.rules.specs.Table.{Table, size, most, row_width, word, put, with_row, largest, raised, used, next_handle, handle}
 use Rattle.rules.specs.Terms.{Term, type_of, arguments_of, numbers_of, new_entry, add_entry}
 use Rattle.rules.proofs.Words.{most_row, size_row, word_row_same, word_row_other, row_after, most_put, put_after, size_put, word_put_same, word_put_other}

@@ -1,5 +1,6 @@
 -- What an honest participant does with a message whose entries are known: it is taken for what its elements are, and answered where
 -- there is room, since a nonce is short and so is every entry of the answer. Assumes nothing.
+use Rattle.std.specs.Prelude.{if◌then◌else◌}
 use Prim.Native.Nat.{ℕ, zero, suc, ◌+◌, ◌≤◌, ◌<◌}
 use native.Mathlib.Omega.{arith}
 use mathlib.Core.Path.{◌≡◌, refl, sym, ap, ◌∙◌}
@@ -10,7 +11,7 @@ use lib.Dec.{eqb, leb}
 use lib.ListN.{length, take, get_or}
 use lib.Seq.{length-take-le, get_or-take}
 use borrow.Author.Tests.{leb-true, le-leb, eq-eqb, ne_eqb}
-use Rattle.rules.specs.Choice.{if◌then◌else◌, every, sum_of}
+use Rattle.rules.specs.Choice.{every, sum_of}
 use Rattle.rules.specs.Table.{Table, participants, capacity, used, type_at, count_at, argument, arguments, length_at, is_participant, honest}
 use Rattle.rules.specs.Terms.{datum, nonce, list, list_type, ciphertext_type, elements, longest, datum_length, nonce_length, list_length, ciphertext_length, public_key_of, find_datum, find_list}
 use Rattle.rules.specs.Handles.{entry_of, holds_handle}

@@ -1,5 +1,6 @@
 -- Which terms a well-formed table takes as a new entry, and why its entries go on to fit when it grows: an entry's tests read its own
 -- seven numbers, those of entries before it, and the number of participants. Assumes nothing.
+use Rattle.std.specs.Prelude.{if◌then◌else◌}
 use Prim.Native.Nat.{ℕ, ◌*◌, ◌%◌, ◌≤◌, ◌<◌}
 use native.Mathlib.Omega.{arith}
 use mathlib.Core.Path.{◌≡◌, refl, sym, ap, ◌∙◌}
@@ -10,7 +11,6 @@ use mathlib.Core.List.{List, [], ◌∷◌, ◌++◌, Memᴰ}
 use lib.Dec.{leb}
 use lib.ListN.{length}
 use borrow.Author.Tests.{le-leb, lt-ltb, eqb-true, eq-eqb, ne_eqb}
-use Rattle.rules.specs.Choice.{if◌then◌else◌}
 use Rattle.rules.specs.Table.{Table, word, participants, used, type_at, argument, arguments, length_at}
 use Rattle.rules.specs.Terms.{Term, datum, nonce, list, ciphertext, secret_key, public_key, blank, list_type, secret_key_type, is_datum, is_nonce, is_list, is_ciphertext, is_secret_key, is_public_key, type_of, arguments_of, elements, term_at, longest, list_length, ciphertext_length, length_of, numbers_of, public_key_of}
 use Rattle.rules.specs.WellFormed.{is_later_type, type_fits, count_of, count_fits, unused_are_zero, nonce_fits, is_earlier, may_be_element, list_fits, is_key_place, ciphertext_fits, length_fits, entry_fits}

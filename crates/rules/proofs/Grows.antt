@@ -1,5 +1,6 @@
 -- What every step of a command leaves: the run's length, the head up to the capacity, and what each used entry is. Creating and
 -- granting leave it, by the words that they don't write. Assumes nothing.
+use Rattle.std.specs.Prelude.{if◌then◌else◌}
 use Prim.Native.Nat.{ℕ, ◌+◌, ◌*◌, ◌≤◌, ◌<◌}
 use native.Mathlib.Omega.{arith}
 use mathlib.Core.Path.{◌≡◌, refl, sym, ◌∙◌}
@@ -8,7 +9,7 @@ use mathlib.Core.List.{List}
 use lib.Dec.{leb}
 use lib.ListN.{length}
 use borrow.Author.Tests.{le-leb, lt-leb}
-use Rattle.rules.specs.Choice.{◌and◌, if◌then◌else◌}
+use Rattle.rules.specs.Choice.{◌and◌}
 use Rattle.rules.specs.Table.{Table, size, most, row_width, word, largest, used, arguments, is_participant, honest}
 use Rattle.rules.specs.Terms.{blank, elements, term_at, new_entry, add_entry}
 use Rattle.rules.specs.Handles.{grant}

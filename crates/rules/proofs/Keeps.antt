@@ -1,5 +1,6 @@
 -- Who refuses or drops leaves the table as it was: a refusal comes from `need` alone, which gives back the table that it was handed.
 -- Assumes nothing.
+use Rattle.std.specs.Prelude.{if◌then◌else◌}
 use Prim.Native.Nat.{ℕ, ◌-◌, ◌≤◌}
 use native.Mathlib.Omega.{arith}
 use mathlib.Core.Path.{◌≡◌, refl, sym, ◌∙◌}
@@ -8,7 +9,7 @@ use mathlib.Core.Bool.{Bool, true, false}
 use mathlib.Core.List.{List, [], ◌∷◌}
 use lib.Dec.{eqb, leb}
 use lib.ListN.{length}
-use Rattle.rules.specs.Choice.{if◌then◌else◌, every}
+use Rattle.rules.specs.Choice.{every}
 use Rattle.rules.specs.Table.{Table, used, capacity}
 use Rattle.rules.specs.Terms.{Term, length_of, new_entry, create, find_datum, find_list}
 use Rattle.rules.specs.Handles.{entry_of}

@@ -1,5 +1,6 @@
 -- Set-up names nobody for a key but knower 0 and the honest: it goes by the mask alone, and a mask below 2 ^ n has nobody past n.
 -- Assumes nothing.
+use Rattle.std.specs.Prelude.{if◌then◌else◌}
 use Prim.Native.Nat.{ℕ, ◌-◌, ◌^◌, ◌≤◌, ◌<◌}
 use native.Mathlib.Nat.{pow-le-pow_right, div-eq_of_lt}
 use native.Mathlib.Omega.{arith}
@@ -8,7 +9,6 @@ use mathlib.Core.Logic.{◌≢◌}
 use mathlib.Core.Bool.{Bool, true, false}
 use lib.Dec.{eqb}
 use borrow.Author.Tests.{le-leb, ne_eqb}
-use Rattle.rules.specs.Choice.{if◌then◌else◌}
 use Rattle.rules.specs.Table.{in_mask}
 use Rattle.rules.specs.SetUp.{holds_secret_key, holds_public_key}
 use Rattle.rules.proofs.Logic.{never}

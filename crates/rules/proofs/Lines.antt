@@ -1,5 +1,6 @@
 -- What a printed line says can be read back: a line has one line feed, at its end, and its parts are set off by single spaces, so a line
 -- of the output is the line of one answer and of no other. Assumes nothing.
+use Rattle.std.specs.Prelude.{if◌then◌else◌}
 use Prim.Native.Nat.{ℕ, zero, suc, ◌+◌, ◌-◌, ◌*◌, ◌/◌, ◌%◌, ◌≤◌, ◌<◌}
 use native.Mathlib.Omega.{arith}
 use native.Mathlib.Decide.{dec_lt}
@@ -9,7 +10,7 @@ use mathlib.Core.List.{List, [], ◌∷◌, ◌++◌}
 use lib.Dec.{leb, ltb}
 use lib.ListN.{length, length-append}
 use borrow.Author.Tests.{lt-ltb, le-ltb, ne_eqb, leb-true}
-use Rattle.rules.specs.Choice.{if◌then◌else◌, every}
+use Rattle.rules.specs.Choice.{every}
 use Rattle.rules.specs.Outcome.{accepted}
 use Rattle.rules.proofs.Logic.{and_left, and_right, first_of, rest_of}
 use Rattle.rules.specs.Player.{ascii, digits, decimal, word_of, spaced, line_of, lines_from, onto_first, cut_lines}

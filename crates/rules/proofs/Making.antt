@@ -1,5 +1,6 @@
 -- The entries that an honest step makes fit one after the other, and what it grants is no secret key, so sending keeps a table well
 -- formed. Assumes nothing.
+use Rattle.std.specs.Prelude.{if◌then◌else◌}
 use Prim.Native.Nat.{ℕ, ◌+◌, ◌-◌, ◌≤◌, ◌<◌}
 use native.Mathlib.Omega.{arith}
 use mathlib.Core.Path.{◌≡◌, refl, sym, ap, ◌∙◌}
@@ -10,7 +11,7 @@ use mathlib.Core.List.{List, [], ◌∷◌, ◌++◌}
 use lib.Dec.{eqb}
 use lib.ListN.{length, length-append}
 use borrow.Author.Tests.{leb-true, eqb-true, eqb-false}
-use Rattle.rules.specs.Choice.{if◌then◌else◌, every, sum_of}
+use Rattle.rules.specs.Choice.{every, sum_of}
 use Rattle.rules.specs.Table.{Table, capacity, used, type_at, length_at, honest}
 use Rattle.rules.specs.Terms.{Term, datum, nonce, list, ciphertext, data_type, nonce_type, list_type, ciphertext_type, secret_key_type, type_of, is_list, elements, term_at, longest, datum_length, nonce_length, list_length, ciphertext_length, length_of, public_key_of, new_entry, create, is_datum_of, find_datum, is_list_of, find_list}
 use Rattle.rules.specs.Handles.{grant_each}

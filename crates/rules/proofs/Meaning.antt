@@ -1,4 +1,5 @@
 -- The definitions that give the code's enums their numbers tell their values apart: each has a way back. Assumes nothing.
+use Rattle.std.specs.Prelude.{if◌then◌else◌}
 use Prim.Native.Nat.{ℕ, ◌+◌, ◌≤◌}
 use native.Mathlib.Omega.{arith}
 use mathlib.Core.Path.{◌≡◌, refl, sym, ap, ◌∙◌}
@@ -7,7 +8,7 @@ use mathlib.Core.List.{List, [], ◌∷◌}
 use lib.Dec.{eqb}
 use lib.ListN.{get_or}
 use borrow.Author.Tests.{ne_eqb}
-use Rattle.rules.specs.Choice.{if◌then◌else◌, lowest}
+use Rattle.rules.specs.Choice.{lowest}
 use Rattle.rules.proofs.Walks.{lowest_found}
 use Rattle.rules.specs.Machine.{Record, SetUp, Asks, Start, Deliver, Store, Nonce, MakeList, Project, Encrypt, Decrypt, Parse}
 use Rattle.rules.specs.Meaning.{said, found_at, or_nothing, beside_at, asked}

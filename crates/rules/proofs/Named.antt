@@ -1,12 +1,12 @@
 -- A new entry granted to the knowers that a test names: just those hold it then, since each knower has one turn and a turn writes only
 -- that knower's words. For every test and every knower at once. Assumes nothing.
+use Rattle.std.specs.Prelude.{if◌then◌else◌}
 use Prim.Native.Nat.{ℕ, zero, suc, ◌≤◌, ◌<◌}
 use native.Mathlib.Omega.{arith}
 use native.Mathlib.Decide.{ℕ_discrete}
 use mathlib.Core.Path.{◌≡◌, refl, sym, ◌∙◌}
 use mathlib.Core.Logic.{◌≢◌}
 use mathlib.Core.Bool.{Bool, true, false}
-use Rattle.rules.specs.Choice.{if◌then◌else◌}
 use Rattle.rules.specs.Table.{Table, most, used, capacity, next_handle, handle}
 use Rattle.rules.specs.Handles.{holds, grant}
 use Rattle.rules.specs.SetUp.{grant_named}

@@ -1,5 +1,6 @@
 -- Entries made by creating alone, new or found: the table grows, nobody gets a handle, and the entry is the term asked for. In a shaped
 -- table with room no guard stops this. Assumes nothing.
+use Rattle.std.specs.Prelude.{if◌then◌else◌}
 use Prim.Native.Nat.{ℕ, ◌+◌, ◌≤◌}
 use native.Mathlib.Omega.{arith}
 use native.Mathlib.Decide.{ℕ_discrete}
@@ -7,7 +8,6 @@ use mathlib.Core.Path.{◌≡◌, ◌∙◌}
 use lib.Dec.{eqb}
 use lib.ListN.{length}
 use borrow.Author.Tests.{eq-eqb, ne_eqb}
-use Rattle.rules.specs.Choice.{if◌then◌else◌}
 use Rattle.rules.specs.Table.{Table, capacity, used}
 use Rattle.rules.specs.Terms.{Term, arguments_of, new_entry, create}
 use Rattle.rules.specs.Steps.{Made, make, make_unless, unless_found}

@@ -1,5 +1,6 @@
 -- How a delivered message is read: the entries that it is made of are used, their types say what they are, and the tests for a first,
 -- second and third message say which elements its list has. Assumes nothing.
+use Rattle.std.specs.Prelude.{if◌then◌else◌}
 use Prim.Native.Nat.{ℕ, zero, suc, ◌≤◌}
 use native.Mathlib.Omega.{arith}
 use mathlib.Core.Path.{◌≡◌, refl, ap, ◌∙◌}
@@ -8,7 +9,7 @@ use mathlib.Core.List.{List, [], ◌∷◌, Memᴰ}
 use lib.Dec.{eqb, leb}
 use lib.ListN.{take}
 use borrow.Author.Tests.{leb-true, eqb-true}
-use Rattle.rules.specs.Choice.{◌and◌, if◌then◌else◌}
+use Rattle.rules.specs.Choice.{◌and◌}
 use Rattle.rules.specs.Table.{Table, type_at, count_at, argument, arguments}
 use Rattle.rules.specs.Terms.{datum, nonce, list, ciphertext, list_type, ciphertext_type, is_ciphertext, elements, public_key_of, is_datum_of, is_nonce_of}
 use Rattle.rules.specs.Handles.{entry_of}

@@ -1,5 +1,6 @@
 -- A used entry's term and its words say the same: the term is read off the type, so the type gives the term's kind and the arguments
 -- its parts, and a search by words finds a term. Assumes nothing.
+use Rattle.std.specs.Prelude.{if◌then◌else◌}
 use Prim.Native.Nat.{ℕ, ◌≤◌}
 use native.Mathlib.Omega.{arith}
 use native.Mathlib.Decide.{dec_le}
@@ -9,7 +10,7 @@ use mathlib.Core.Bool.{Bool, true, false}
 use mathlib.Core.List.{List}
 use lib.Dec.{eqb, leb}
 use borrow.Author.Tests.{eqb-true, eq-eqb}
-use Rattle.rules.specs.Choice.{◌and◌, if◌then◌else◌, same, lowest}
+use Rattle.rules.specs.Choice.{◌and◌, same, lowest}
 use Rattle.rules.specs.Table.{Table, used, type_at, argument}
 use Rattle.rules.specs.Terms.{Term, datum, nonce, list, ciphertext, secret_key, public_key, blank, data_type, nonce_type, list_type, ciphertext_type, secret_key_type, public_key_type, is_datum, is_nonce, is_list, elements, term_at, is_datum_of, find_datum, is_list_of, find_list, is_nonce_of}
 use Rattle.rules.specs.Handshake.{term_in}

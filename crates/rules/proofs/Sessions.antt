@@ -1,5 +1,6 @@
 -- What stands behind a line of a session: a file that is played begins with its set-up, its other records are requests, and the player's
 -- answers are those of `run`, so the line of an acceptance is that of one request, after the requests before it. Assumes nothing.
+use Rattle.std.specs.Prelude.{if◌then◌else◌}
 use Prim.Native.Nat.{ℕ, zero, suc, ◌+◌, ◌*◌, ◌≤◌}
 use native.Mathlib.Omega.{arith}
 use mathlib.Core.Path.{◌≡◌, refl, sym, ap, ◌∙◌}
@@ -9,7 +10,6 @@ use mathlib.Core.List.Memᴰ
 use mathlib.Core.List.{List, [], ◌∷◌, ◌++◌, Memᴰ}
 use lib.ListN.{length, get_or}
 use borrow.Author.Tests.{ne_eqb}
-use Rattle.rules.specs.Choice.{if◌then◌else◌}
 use Rattle.rules.specs.Table.{Table, used}
 use Rattle.rules.specs.SetUp.{set_up_fits, set_up_table}
 use Rattle.rules.specs.WellFormed.{well_formed}

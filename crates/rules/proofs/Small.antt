@@ -1,5 +1,6 @@
 -- Every number of a table and of an answer stays one that a word holds, if the requests' own are: all that is written is such a number, a
 -- new entry's length by the test for room. Assumes nothing.
+use Rattle.std.specs.Prelude.{if◌then◌else◌}
 use Prim.Native.Nat.{ℕ, zero, suc, ◌+◌, ◌*◌, ◌≤◌, ◌<◌}
 use native.Mathlib.Omega.{arith}
 use mathlib.Core.Path.{◌≡◌, refl}
@@ -10,7 +11,7 @@ use mathlib.Core.List.{List, [], ◌∷◌, ◌++◌, map, Memᴰ}
 use lib.Dec.{eqb, leb, ltb}
 use lib.ListN.{length, get_or, take, drop, set, replicate, length-append, length-take, length-map}
 use borrow.Author.Tests.{ltb-true, leb-true}
-use Rattle.rules.specs.Choice.{◌and◌, ◌or◌, if◌then◌else◌, every, lowest}
+use Rattle.rules.specs.Choice.{◌and◌, ◌or◌, every, lowest}
 use Rattle.rules.specs.Table.{Table, size, row_width, this_version, most_of, most, words_for, word, put, with_row, largest, raised, used, participants, next_handle, set_next_handle, count_at, argument, handle, set_handle, is_participant}
 use Rattle.rules.specs.Terms.{Term, datum, nonce, list, ciphertext, secret_key, public_key, blank, type_of, arguments_of, is_datum, is_list, is_ciphertext, is_secret_key, is_public_key, longest, datum_length, secret_key_length, public_key_length, public_key_of, new_entry, numbers_of, add_entry, create, find_datum, find_list, is_datum_of, is_nonce_of}
 use Rattle.rules.specs.Handles.{holds, grant, grant_each, entry_of, names}

@@ -1,5 +1,6 @@
 -- Every request keeps a table well formed: what it makes fits, by the tests that it passed, and what it grants is no secret key, since
 -- it lists, opens or projects nothing of that kind. Assumes nothing.
+use Rattle.std.specs.Prelude.{if◌then◌else◌}
 use Prim.Native.Nat.{ℕ, zero, suc, ◌-◌, ◌≤◌, ◌<◌}
 use native.Mathlib.Omega.{arith}
 use mathlib.Core.Path.{◌≡◌, refl, sym, ◌∙◌}
@@ -11,7 +12,7 @@ use lib.Dec.{eqb, leb}
 use lib.ListN.{length, take, length-map}
 use lib.Seq.{length-take-le}
 use borrow.Author.Tests.{leb-true, eqb-true, eqb-false, not-true}
-use Rattle.rules.specs.Choice.{◌and◌, if◌then◌else◌, every}
+use Rattle.rules.specs.Choice.{◌and◌, every}
 use Rattle.rules.specs.Table.{Table, capacity, used, type_at, count_at, argument, arguments, is_participant, honest}
 use Rattle.rules.specs.Terms.{Term, datum, nonce, list, ciphertext, data_type, list_type, ciphertext_type, is_secret_key, is_public_key, elements, length_of, new_entry, create, is_datum_of, is_nonce_of, find_datum, find_list}
 use Rattle.rules.specs.Handles.{entry_of, names, holds_handle}

@@ -1,4 +1,5 @@
 -- The walks over 1 to n, one step further and at each number: each law is an induction on n. Assumes nothing.
+use Rattle.std.specs.Prelude.{if◌then◌else◌}
 use Prim.Native.Nat.{ℕ, zero, suc, ◌+◌, ◌<◌, ◌≤◌}
 use native.Mathlib.Numerals.{add-one}
 use native.Mathlib.Omega.{arith}
@@ -7,7 +8,7 @@ use mathlib.Core.Path.{◌≡◌, refl, sym, ap, ◌∙◌}
 use mathlib.Core.Bool.{Bool, true, false}
 use lib.Dec.{eqb}
 use borrow.Author.Tests.{eq-eqb, ne_eqb}
-use Rattle.rules.specs.Choice.{◌and◌, if◌then◌else◌, all, count, lowest}
+use Rattle.rules.specs.Choice.{◌and◌, all, count, lowest}
 use Rattle.rules.proofs.Logic.{and_left, and_right, both, never, fails}
 
 -- e is one of 1 to n + 1: one of 1 to n, or the last

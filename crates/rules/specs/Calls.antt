@@ -1,6 +1,5 @@
 -- The calls of a C host: a whole session, and one record on the host's own table (rules K1 and K2).
-use Rattle.std.specs.Prelude.{ℕ, List, ◌++◌, eqb, leb, length, take, drop, replicate}
-use Rattle.rules.specs.Choice.{if◌then◌else◌}
+use Rattle.std.specs.Prelude.{ℕ, List, ◌++◌, eqb, leb, length, take, drop, replicate, if◌then◌else◌}
 use Rattle.rules.specs.Table.{Table}
 use Rattle.rules.specs.Machine.{Record, perform}
 use Rattle.rules.specs.Session.{Reading, found, malformed, ended, read_record}

@@ -1,14 +1,9 @@
--- Choosing by a test, walks over the numbers 1 to n, and tests of lists. Nothing here is of the machine.
-use Rattle.std.specs.Prelude.{ℕ, zero, suc, ◌+◌, Bool, true, false, List, [], ◌∷◌, eqb}
+-- Tests put together, walks over the numbers 1 to n, and tests of lists. Nothing here is of the machine.
+use Rattle.std.specs.Prelude.{ℕ, zero, suc, ◌+◌, Bool, true, false, List, [], ◌∷◌, eqb, if◌then◌else◌}
 
 infixr 35 ◌and◌
 infixr 30 ◌or◌
 infixr 20 ◌implies◌
-module _ {ℓ} {A : Type ℓ} where
-  infixr 5 if◌then◌else◌
-  abbrev pub if◌then◌else◌ : Bool → A → A → A
-  if true then a else b = a
-  if false then a else b = b
 
 -- to the right, so that a proof takes a chain apart by its first part
 abbrev pub ◌and◌ : Bool → Bool → Bool

@@ -1,6 +1,6 @@
 -- The adversary's commands: handles are knower 0's, and what they give is granted to knower 0 (rules C1 to C7).
-use Rattle.std.specs.Prelude.{ℕ, ◌+◌, Bool, not, List, [], ◌∷◌, map, eqb, leb, take, drop}
-use Rattle.rules.specs.Choice.{◌and◌, ◌or◌, if◌then◌else◌, every, is_zero}
+use Rattle.std.specs.Prelude.{ℕ, ◌+◌, Bool, not, List, [], ◌∷◌, map, eqb, leb, take, drop, if◌then◌else◌}
+use Rattle.rules.specs.Choice.{◌and◌, ◌or◌, every, is_zero}
 use Rattle.rules.specs.Table.{Table, type_at, count_at, argument, length_at, handle}
 use Rattle.rules.specs.Terms.{Term, datum, nonce, list, ciphertext, is_datum, is_list, is_ciphertext, is_secret_key, is_public_key, length_of, new_entry, create, find_datum, find_list}
 use Rattle.rules.specs.Handles.{entry_of, holds_handle}

@@ -1,6 +1,6 @@
 -- Handles: who holds an entry, granting, and the one way from a handle to its entry (rules H1 to H3).
-use Rattle.std.specs.Prelude.{ℕ, Bool, not, List, [], ◌∷◌, eqb}
-use Rattle.rules.specs.Choice.{◌and◌, if◌then◌else◌, count, lowest}
+use Rattle.std.specs.Prelude.{ℕ, Bool, not, List, [], ◌∷◌, eqb, if◌then◌else◌}
+use Rattle.rules.specs.Choice.{◌and◌, count, lowest}
 use Rattle.rules.specs.Table.{Table, raised, used, next_handle, set_next_handle, handle, set_handle}
 
 -- H1: knower k has a handle on entry e

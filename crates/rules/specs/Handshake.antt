@@ -1,7 +1,7 @@
 -- What it means that somebody started, answered, replied or accepted, in the words of demand 3: each is read off a request, its answer,
 -- and what the answer's handle (or the delivered one) names in the table (rules D1 to D7).
-use Rattle.std.specs.Prelude.{ℕ, ◌≡◌, List, [], ◌∷◌, leb}
-use Rattle.rules.specs.Choice.{◌and◌, if◌then◌else◌}
+use Rattle.std.specs.Prelude.{ℕ, ◌≡◌, List, [], ◌∷◌, leb, if◌then◌else◌}
+use Rattle.rules.specs.Choice.{◌and◌}
 use Rattle.rules.specs.Table.{Table, used}
 use Rattle.rules.specs.Terms.{Term, datum, nonce, list, ciphertext, blank, term_at, public_key_of}
 use Rattle.rules.specs.Handles.{entry_of}

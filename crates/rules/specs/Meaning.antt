@@ -1,6 +1,5 @@
 -- What the values of the code's types mean, in the machine's own numbers (rule R1). Every promise about an enum is said through these.
-use Rattle.std.specs.Prelude.{ℕ, List, [], ◌∷◌, eqb, get_or}
-use Rattle.rules.specs.Choice.{if◌then◌else◌}
+use Rattle.std.specs.Prelude.{ℕ, List, [], ◌∷◌, eqb, get_or, if◌then◌else◌}
 use Rattle.rules.specs.Outcome.{ready, sent, accepted, dropped, handed, parsed, refused}
 use Rattle.rules.specs.Machine.{Record, SetUp, Asks, Start, Deliver, Store, Nonce, MakeList, Project, Encrypt, Decrypt, Parse}
 use Rattle.rules.specs.declared.Handle.{Handle}

@@ -1,6 +1,6 @@
 -- Answers in numbers, refusals, and what a command gives: an answer and the table that it leaves (rules R1 to R3).
-use Rattle.std.specs.Prelude.{ℕ, ◌-◌, Bool, List, [], ◌∷◌, leb, length}
-use Rattle.rules.specs.Choice.{if◌then◌else◌, every}
+use Rattle.std.specs.Prelude.{ℕ, ◌-◌, Bool, List, [], ◌∷◌, leb, length, if◌then◌else◌}
+use Rattle.rules.specs.Choice.{every}
 use Rattle.rules.specs.Table.{Table, used, capacity, handle}
 use Rattle.rules.specs.Terms.{longest}
 use Rattle.rules.specs.Handles.{grant}

@@ -1,8 +1,7 @@
 -- The player: its table, a line for each record, and its whole output (rules P1 to P5).
-use Rattle.std.specs.Prelude.{ℕ, zero, suc, ◌+◌, ◌/◌, ◌%◌, List, [], ◌∷◌, ◌++◌, eqb, ltb, get_or, replicate}
+use Rattle.std.specs.Prelude.{ℕ, zero, suc, ◌+◌, ◌/◌, ◌%◌, List, [], ◌∷◌, ◌++◌, eqb, ltb, get_or, replicate, if◌then◌else◌}
 use Prim.Native.Char.{code}
 use Prim.Native.String.{String, [] as []ˢ, ◌∷◌ as ◌∷ˢ◌}
-use Rattle.rules.specs.Choice.{if◌then◌else◌}
 use Rattle.rules.specs.Table.{Table, this_version, words_for}
 use Rattle.rules.specs.Outcome.{refused}
 use Rattle.rules.specs.Machine.{perform}

@@ -1,6 +1,6 @@
 -- The session file: its first byte, its records read at a position, and a record written (rules F1 to F6).
-use Rattle.std.specs.Prelude.{ℕ, zero, suc, ◌+◌, ◌-◌, ◌*◌, ◌/◌, ◌%◌, Bool, true, false, not, List, [], ◌∷◌, ◌++◌, eqb, leb, length, get_or, take, drop}
-use Rattle.rules.specs.Choice.{◌and◌, if◌then◌else◌}
+use Rattle.std.specs.Prelude.{ℕ, zero, suc, ◌+◌, ◌-◌, ◌*◌, ◌/◌, ◌%◌, Bool, true, false, not, List, [], ◌∷◌, ◌++◌, eqb, leb, length, get_or, take, drop, if◌then◌else◌}
+use Rattle.rules.specs.Choice.{◌and◌}
 use Rattle.rules.specs.Commands.{list_is_asked}
 use Rattle.rules.specs.Machine.{Request, Start, Deliver, Store, Nonce, MakeList, Project, Encrypt, Decrypt, Parse, Record, SetUp, Asks}
 

@@ -1,6 +1,6 @@
 -- Set-up: which numbers it takes, who is to hold the keys, and the table that it leaves (rules S1 to S3).
-use Rattle.std.specs.Prelude.{ℕ, zero, suc, ◌+◌, ◌*◌, ◌^◌, Bool, List, [], ◌∷◌, ◌++◌, eqb, leb, ltb, drop, replicate}
-use Rattle.rules.specs.Choice.{◌and◌, ◌or◌, if◌then◌else◌}
+use Rattle.std.specs.Prelude.{ℕ, zero, suc, ◌+◌, ◌*◌, ◌^◌, Bool, List, [], ◌∷◌, ◌++◌, eqb, leb, ltb, drop, replicate, if◌then◌else◌}
+use Rattle.rules.specs.Choice.{◌and◌, ◌or◌}
 use Rattle.rules.specs.Table.{Table, size, this_version, most_of, most, words_for, in_mask}
 use Rattle.rules.specs.Terms.{secret_key, public_key, secret_key_length, public_key_length, new_entry, create}
 use Rattle.rules.specs.Handles.{grant}

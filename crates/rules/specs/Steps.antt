@@ -1,6 +1,6 @@
 -- The honest steps, start and deliver: who may act, how a message is read, what is sent, who is granted what (rules N1 to N7).
-use Rattle.std.specs.Prelude.{ℕ, ◌+◌, Bool, not, List, [], ◌∷◌, ◌++◌, eqb, leb, take}
-use Rattle.rules.specs.Choice.{◌and◌, if◌then◌else◌, sum_of}
+use Rattle.std.specs.Prelude.{ℕ, ◌+◌, Bool, not, List, [], ◌∷◌, ◌++◌, eqb, leb, take, if◌then◌else◌}
+use Rattle.rules.specs.Choice.{◌and◌, sum_of}
 use Rattle.rules.specs.Table.{Table, count_at, argument, length_at, handle, is_participant, honest}
 use Rattle.rules.specs.Terms.{Term, datum, nonce, list, ciphertext, is_list, is_ciphertext, elements, public_key_of, datum_length, nonce_length, list_length, ciphertext_length, new_entry, create, find_datum, find_list, is_datum_of, is_nonce_of}
 use Rattle.rules.specs.Handles.{grant, grant_each, entry_of, holds_handle}

@@ -1,7 +1,7 @@
 -- The table as rows of numbers, and the names of its fields (rules T1 to T4).
 -- Only `word`, `put`, `with_row` and `words_for` know how the rows lie; all else is said through them.
-use Rattle.std.specs.Prelude.{ℕ, ◌+◌, ◌-◌, ◌*◌, ◌/◌, ◌%◌, ◌^◌, Bool, List, [], ◌∷◌, ◌++◌, eqb, leb, ltb, length, get_or, set, take, drop}
-use Rattle.rules.specs.Choice.{◌and◌, if◌then◌else◌, all}
+use Rattle.std.specs.Prelude.{ℕ, ◌+◌, ◌-◌, ◌*◌, ◌/◌, ◌%◌, ◌^◌, Bool, List, [], ◌∷◌, ◌++◌, eqb, leb, ltb, length, get_or, set, take, drop, if◌then◌else◌}
+use Rattle.rules.specs.Choice.{◌and◌, all}
 
 -- T1: what is lent, one run of numbers
 abbrev pub Table : Type 0

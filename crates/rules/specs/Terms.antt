@@ -1,6 +1,6 @@
 -- What an entry is: the six types, their arguments, their lengths, making a new entry and finding an old one (rules T5 to T10).
-use Rattle.std.specs.Prelude.{ℕ, ◌+◌, ◌-◌, ◌*◌, Bool, List, [], ◌∷◌, ◌++◌, eqb, length, take, replicate}
-use Rattle.rules.specs.Choice.{◌and◌, if◌then◌else◌, sum_of, same, lowest}
+use Rattle.std.specs.Prelude.{ℕ, ◌+◌, ◌-◌, ◌*◌, Bool, List, [], ◌∷◌, ◌++◌, eqb, length, take, replicate, if◌then◌else◌}
+use Rattle.rules.specs.Choice.{◌and◌, sum_of, same, lowest}
 use Rattle.rules.specs.Table.{Table, most, with_row, raised, used, set_used, type_at, count_at, argument, arguments, length_at}
 
 -- T5: a term, its arguments being entries where they are not numbers

@@ -1,6 +1,6 @@
 -- When a table is well formed, clause by clause (rules W1 to W11).
-use Rattle.std.specs.Prelude.{ℕ, ◌+◌, ◌*◌, ◌%◌, Bool, not, eqb, leb, ltb, drop}
-use Rattle.rules.specs.Choice.{◌and◌, ◌or◌, ◌implies◌, agree, if◌then◌else◌, all, every, is_zero}
+use Rattle.std.specs.Prelude.{ℕ, ◌+◌, ◌*◌, ◌%◌, Bool, not, eqb, leb, ltb, drop, if◌then◌else◌}
+use Rattle.rules.specs.Choice.{◌and◌, ◌or◌, ◌implies◌, agree, all, every, is_zero}
 use Rattle.rules.specs.Table.{Table, size, row_width, words_for, this_version, version, participants, mask, capacity, used, next_handle, spares_fit, type_at, count_at, argument, arguments, length_at, handle, honest, every_knower}
 use Rattle.rules.specs.Terms.{data_type, ciphertext_type, nonce_type, is_nonce, is_list, is_ciphertext, is_secret_key, is_public_key, elements, term_at, longest, length_of, secret_key_of, public_key_of}
 use Rattle.rules.specs.Handles.{holds, held}

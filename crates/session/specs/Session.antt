@@ -1,6 +1,5 @@
 -- What the values of the reader's and the writer's types mean in the rules' own words (rules F3, F4, F6).
-use Rattle.std.specs.Prelude.{ℕ, List, [], ◌∷◌, eqb, get_or}
-use Rattle.rules.specs.Choice.{if◌then◌else◌}
+use Rattle.std.specs.Prelude.{ℕ, List, [], ◌∷◌, eqb, get_or, if◌then◌else◌}
 use Rattle.rules.specs.Machine.{Record, SetUp, Asks, Start, Deliver, Store, Nonce, MakeList, Project, Encrypt, Decrypt, Parse}
 use Rattle.rules.specs.Session.{Reading, found, malformed, ended, Written as Wrote, bytes, refusal}
 use Rattle.rules.specs.Meaning.{asked}

@@ -1,4 +1,5 @@
 -- A loop over the knowers from 0 on grants what the rule grants; where the rule names one knower alone, one grant does. Assumes nothing.
+use Rattle.std.specs.Prelude.{if◌then◌else◌}
 use Prim.Native.Nat.{ℕ, zero, suc, ◌+◌, ◌≤◌, ◌<◌}
 use native.Mathlib.Numerals.{add-one}
 use native.Mathlib.Omega.{arith}
@@ -7,7 +8,6 @@ use mathlib.Core.Path.{◌≡◌, refl, sym, ◌∙◌}
 use mathlib.Core.Bool.{Bool, true, false}
 use lib.Dec.{eqb}
 use borrow.Author.Tests.{eq-eqb, ne_eqb}
-use Rattle.rules.specs.Choice.{if◌then◌else◌}
 use Rattle.rules.specs.Table.{Table, most, in_mask}
 use Rattle.rules.specs.Handles.{grant}
 use Rattle.rules.specs.SetUp.{holds_secret_key, grant_named}

@@ -1,6 +1,5 @@
 -- The one knower that is to hold a secret key.
-use Rattle.std.specs.Prelude.{ℕ}
-use Rattle.rules.specs.Choice.{if◌then◌else◌}
+use Rattle.std.specs.Prelude.{ℕ, if◌then◌else◌}
 use Rattle.rules.specs.Table.{in_mask}
 
 -- its owner if that is honest by the mask, else the adversary

@@ -1,4 +1,5 @@
 -- Who may act, and the ways that a delivery goes before anything is sent, in the facts that the code has there. Assumes nothing.
+use Rattle.std.specs.Prelude.{if◌then◌else◌}
 use Prim.Native.Nat.{ℕ, ◌<◌}
 use native.Mathlib.Omega.{arith}
 use mathlib.Core.Path.{◌≡◌, refl, sym, ap}
@@ -7,7 +8,6 @@ use mathlib.Core.List.{List, [], ◌∷◌}
 use lib.Dec.{eqb, leb}
 use lib.ListN.{length}
 use borrow.Author.Tests.{eq-eqb, ne_eqb, leb-true}
-use Rattle.rules.specs.Choice.{if◌then◌else◌}
 use Rattle.rules.specs.Table.{Table, most, participants, type_at, is_participant}
 use Rattle.rules.specs.Handles.{grant_each, entry_of, holds_handle}
 use Rattle.rules.specs.Outcome.{gives, accepted, dropped, refused, need, need_room}

@@ -1,6 +1,5 @@
 -- The numbers of the entries that the code hands over as an array, and the words by which a list of them is sought.
-use Rattle.std.specs.Prelude.{ℕ, ◌+◌, List, [], ◌∷◌, ltb}
-use Rattle.rules.specs.Choice.{if◌then◌else◌}
+use Rattle.std.specs.Prelude.{ℕ, ◌+◌, List, [], ◌∷◌, ltb, if◌then◌else◌}
 use Rattle.rules.specs.Terms.{list_type}
 use Rattle.rules.specs.declared.Entry.{Entry}
 
