@@ -4,7 +4,6 @@ use Rattle.std.specs.Prelude.{ℕ, zero, suc, ◌+◌, Bool, true, false, List, 
 infixr 35 ◌and◌
 infixr 30 ◌or◌
 infixr 20 ◌implies◌
-
 -- to the right, so that a proof takes a chain apart by its first part
 abbrev pub ◌and◌ : Bool → Bool → Bool
 true and b = b
