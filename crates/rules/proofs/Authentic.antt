@@ -39,7 +39,7 @@ module _ (t : Table) (n m c : ℕ) (fits : set_up_fits t n m c ≡ true) (rs : L
   pub authentic : let s = set_up_table t n m c in let b = table_after s (run rs s) in
       (r : Request) (v u k : ℕ) → honest s v ≡ true → honest s u ≡ true → Accepts v u k (turn b r (step r b))
       → (w : ℕ) × InOrder (Starts u v w ∷ Answers v u w k ∷ Replies u v w k ∷ []) (turns rs s)
-  authentic r v u k hv hu a = last_message (honest (set_up_table t n m c)) v u k secure.safe a.took a.is_nonce_lem hv hu
+  authentic r v u k hv hu a = last_message (honest (set_up_table t n m c)) v u k secure.safe a.took a.is_nonce hv hu
 
   -- a nonce of two honest participants is held by nobody else
   pub secret_nonces : let s = set_up_table t n m c in let b = table_after s (run rs s) in

@@ -40,12 +40,12 @@ module _ (t : Table) (sh : Shaped t) (e : ℕ) (xs : List ℕ) (is : term_in t e
   uses : Used t e
   uses = term_used t e is (λ q. clash (cc))
 
-  is_list_lem : type_at t e ≡ list_type
-  is_list_lem = (list_words t e is).0
+  list_type_is : type_at t e ≡ list_type
+  list_type_is = (list_words t e is).0
 
   count_few : count_at t e ≤ length (arguments t e)
   unfolding arguments
-  count_few = (sh.list_count e uses is_list_lem).1
+  count_few = (sh.list_count e uses list_type_is).1
 
   pub count_is : count_at t e ≡ length xs
   unfolding elements
@@ -140,8 +140,8 @@ module _ (t : Table) (formed : well_formed t ≡ true) (h r s : ℕ) (others xs 
 
   elements_real : (x : ℕ) → Memᴰ x (take 3 (elements t (plain_in t (entry_of t 0 h)))) → 1 ≤ x
   elements_real =
-      let is_list_lem = (list_words t c.inner c.holds).0 in
-      rw plain_is (λ x i. ((shaped t formed).list_elements c.inner plain_used is_list_lem x (take_mem 3 (elements t c.inner) x i)).0)
+      let list_type_is = (list_words t c.inner c.holds).0 in
+      rw plain_is (λ x i. ((shaped t formed).list_elements c.inner plain_used list_type_is x (take_mem 3 (elements t c.inner) x i)).0)
 
   -- what the receiver is granted are entries
   pub opened_real : (x : ℕ) → Memᴰ x (opened t (entry_of t 0 h)) → 1 ≤ x

@@ -104,10 +104,10 @@ module _ (H : ℕ → Bool) (t : Table) (sh : Shaped t) (r : Request) where
       by_need (Followed H t r) (is_list t e) 6 t _
       (λ l. by_need (Followed H t r) (leb i (count_at t e)) 7 t _
       (λ c.
-      let is_list_lem : type_at t e ≡ list_type = eqb-true (type_at t e) list_type l in
+      let list_type_is : type_at t e ≡ list_type = eqb-true (type_at t e) list_type l in
       let here = argument_in t e i low high (leb-true i (count_at t e) c) in
-      gains_old (argument t e i) (sh.list_elements e held.uses is_list_lem (argument t e i) here).0
-      (projected e (elements t e) held (list_term t e held.uses is_list_lem) here))
+      gains_old (argument t e i) (sh.list_elements e held.uses list_type_is (argument t e i) here).0
+      (projected e (elements t e) held (list_term t e held.uses list_type_is) here))
       (refuses H t r 7)) (refuses H t r 6)
 
   pub follow_project : (h i : ℕ) → Followed H t r (project t h i)

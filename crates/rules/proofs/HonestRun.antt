@@ -56,7 +56,7 @@ module _ (t : Table) (u v : ℕ) (fair : Fair t u v) (apart : u ≢ v) (room : u
   unfolding h1
   m2 =
       answered (one t u v).table fair1.formed v u fair1.is_v fair1.is_u (λ q. apart (sym q)) h1 m1.new m1.name u v []
-      (posted_carries m1.posted) m1.is_nonce_lem m1.is_name (omega (arith, room1))
+      (posted_carries m1.posted) m1.is_nonce m1.is_name (omega (arith, room1))
 
   h2 : ℕ
   h2 = m2.posted.handed
@@ -72,7 +72,7 @@ module _ (t : Table) (u v : ℕ) (fair : Fair t u v) (apart : u ≢ v) (room : u
   unfolding h2
   m3 =
       replied (two t u v h1).table fair2.formed u v fair2.is_u fair2.is_v apart h2 m1.new m2.new m2.name v u []
-      (posted_carries m2.posted) (term_keeps m2.posted.grows m1.new m1.is_nonce_lem refl) m2.is_nonce_lem m2.is_name room2
+      (posted_carries m2.posted) (term_keeps m2.posted.grows m1.new m1.is_nonce refl) m2.is_nonce m2.is_name room2
 
   h3 : ℕ
   h3 = m3.handed
@@ -85,7 +85,7 @@ module _ (t : Table) (u v : ℕ) (fair : Fair t u v) (apart : u ≢ v) (room : u
   unfolding h3
   m4 =
       agreed (three t u v h1 h2).table fair3.formed v u fair3.is_v fair3.is_u (λ q. apart (sym q)) h3 m2.new []
-      (posted_carries m3) (term_keeps m3.grows m2.new m2.is_nonce_lem refl)
+      (posted_carries m3) (term_keeps m3.grows m2.new m2.is_nonce refl)
 
   runs : HonestRun t u v
   unfolding h1 h2 h3

@@ -61,9 +61,9 @@ pub data Understood (t : Table) (r s : ℕ) : List ℕ → Message → Type 0 wh
   as_second : {x y z : ℕ} {zs : List ℕ} → term_in t x ≡ nonce r s → term_in t z ≡ datum s → Understood t r s (x ∷ y ∷ z ∷ zs) (second y)
   as_none : {xs : List ℕ} → Understood t r s xs none
 
-module _ (t : Table) (sh : Shaped t) (l : ℕ) (uses : Used t l) (is_list_lem : type_at t l ≡ list_type) where
+module _ (t : Table) (sh : Shaped t) (l : ℕ) (uses : Used t l) (list_type_is : type_at t l ≡ list_type) where
   pub element_used : (x : ℕ) → Memᴰ x (elements t l) → Used t x
-  element_used x i = let k = sh.list_elements l uses is_list_lem x i in record { low = k.0; high = omega (arith, k.1, uses.high) }
+  element_used x i = let k = sh.list_elements l uses list_type_is x i in record { low = k.0; high = omega (arith, k.1, uses.high) }
 
   module _ (r s : ℕ) where
     one : elements t l ≡ argument t l 1 ∷ [] → Understood t r s (elements t l) (read_one t r s l)
@@ -101,12 +101,12 @@ pub record Delivered (t : Table) (r h : ℕ) (xs : List ℕ) : Type 0 where
   pub learns : {t' : Table} → Grows t t' → (x : ℕ) → Memᴰ x (opened t (entry_of t 0 h)) → Learns t' r xs x
 
 -- a list l that is used, with a ciphertext under r's key in front
-module _ (t : Table) (sh : Shaped t) (r l : ℕ) (uses : Used t l) (is_list_lem : type_at t l ≡ list_type) (for : is_for t r (sealed_in t l) ≡ true) where
+module _ (t : Table) (sh : Shaped t) (r l : ℕ) (uses : Used t l) (list_type_is : type_at t l ≡ list_type) (for : is_for t r (sealed_in t l) ≡ true) where
   others : (xs : List ℕ) × (elements t l ≡ sealed_in t l ∷ xs)
-  others = elements_some t l (sh.list_count l uses is_list_lem).0
+  others = elements_some t l (sh.list_count l uses list_type_is).0
 
   sealed_used : Used t (sealed_in t l)
-  sealed_used = element_used t sh l uses is_list_lem (sealed_in t l) (rw others.1 (Memᴰ.head refl))
+  sealed_used = element_used t sh l uses list_type_is (sealed_in t l) (rw others.1 (Memᴰ.head refl))
 
   is_sealed : (type_at t (sealed_in t l) ≡ ciphertext_type) × (argument t (sealed_in t l) 1 ≡ public_key_of r)
   unfolding is_for
@@ -123,7 +123,7 @@ module _ (t : Table) (sh : Shaped t) (r l : ℕ) (uses : Used t l) (is_list_lem 
   plain_list = (sh.cipher_list (sealed_in t l) sealed_used is_sealed.0).2
 
   outer_is : term_in t l ≡ list (sealed_in t l ∷ others.0)
-  outer_is = list_term t l uses is_list_lem ∙ ap list others.1
+  outer_is = list_term t l uses list_type_is ∙ ap list others.1
 
   sealed_is : term_in t (sealed_in t l) ≡ ciphertext (public_key_of r) (plain_in t l)
   sealed_is = rw is_sealed.1 at (ciphertext_term t (sealed_in t l) sealed_used is_sealed.0)

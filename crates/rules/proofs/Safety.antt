@@ -134,9 +134,9 @@ module _ (H : ℕ → Bool) where
     -- a start has the first origin, if the peer is honest
     started : (u v m : ℕ) → H u ≡ true → (s : Starts u v m x) → Sent s.carries
     started u v m hu s = by_honest H v
-        (λ hv. sealed v refl hv (first u m s.name hu s.carries.holds s.is_nonce_lem s.is_name (lastly (Starts u v m) x s {h = h} none)))
+        (λ hv. sealed v refl hv (first u m s.name hu s.carries.holds s.is_nonce s.is_name (lastly (Starts u v m) x s {h = h} none)))
         (λ hv. safe_cipher (rw s.carries.holds (safe_list
-        (each_cons LaterAt (nonce_safe m u v s.is_nonce_lem hv) (each_cons LaterAt (name_safe s.name u s.is_name) (each_none LaterAt))))))
+        (each_cons LaterAt (nonce_safe m u v s.is_nonce hv) (each_cons LaterAt (name_safe s.name u s.is_name) (each_none LaterAt))))))
 
     -- an answer met a first origin, or what anybody may know: counts rule out the others
     answered : (v u m n y : ℕ) (beside : List ℕ) → H v ≡ true → (s : Answers v u m n x) → Carries x.before s.given beside v (m ∷ y ∷ [])
@@ -146,15 +146,15 @@ module _ (H : ℕ → Bool) where
         -- where m is safe, all is, unless u is honest
         known : Safe H x.before h (term_in x.before m) → Sent s.carries
         known sm = by_honest H u
-            (λ hu. foreign u m v n s.name refl hu hv s.carries.holds (lasting m sm) s.is_nonce_lem s.is_name)
+            (λ hu. foreign u m v n s.name refl hu hv s.carries.holds (lasting m sm) s.is_nonce s.is_name)
             (λ hu. safe_cipher (rw s.carries.holds (safe_list (each_cons LaterAt (lasting m sm)
-            (each_cons LaterAt (nonce_safe n v u s.is_nonce_lem hu) (each_cons LaterAt (name_safe s.name v s.is_name) (each_none LaterAt)))))))
+            (each_cons LaterAt (nonce_safe n v u s.is_nonce hu) (each_cons LaterAt (name_safe s.name v s.is_name) (each_none LaterAt)))))))
 
         go : Inside H x.before h v took.inner → Sent s.carries
         go (bare b) = known (bared took b m (Memᴰ.head refl))
         go (from hp o) =
             let k = two u m y o took.holds is_y in
-            sealed u refl k.0 (second v m n s.name hv s.carries.holds (term_keeps g m k.1 refl) s.is_nonce_lem s.is_name
+            sealed u refl k.0 (second v m n s.name hv s.carries.holds (term_keeps g m k.1 refl) s.is_nonce s.is_name
             (lastly (Answers v u m n) x s k.2))
         go (lent a q b d hp hq e sa f f') = let z = took.holds in clash (cc)
 
@@ -167,7 +167,7 @@ module _ (H : ℕ → Bool) where
 
         go : Inside H x.before h u took.inner → Sent s.carries
         go (bare b) = by_honest H v
-            (λ hv. hidden H hu hv (rw s.is_nonce_lem at (bared took b m (Memᴰ.head refl))))
+            (λ hv. hidden H hu hv (rw s.is_nonce at (bared took b m (Memᴰ.head refl))))
             (λ hv. safe_cipher (rw s.carries.holds (safe_list
             (each_cons LaterAt (lasting n (bared took b n (Memᴰ.tail (Memᴰ.head refl)))) (each_none LaterAt)))))
         go (from hp o) =
@@ -177,7 +177,7 @@ module _ (H : ℕ → Bool) where
             let z = took.holds in
             let ea : a ≡ m = cc in
             let eq : q ≡ v = cc in
-            hidden H hu (rw eq at hq) (rw (ea, s.is_nonce_lem) at sa)
+            hidden H hu (rw eq at hq) (rw (ea, s.is_nonce) at sa)
 
     -- knower 0 gets nothing that isn't safe
     pub safe_after : Moves H x → AllSafe H x.after (h then x)

@@ -225,7 +225,7 @@ pub record Named (t : Table) (p q : ℕ) (known repeated : List ℕ) (o : Outcom
   pub name : ℕ
   pub posted : Posted t p q (known ++ (new ∷ name ∷ [])) (repeated ++ (new ∷ name ∷ [])) o
   pub is_fresh : term_in t new ≡ blank
-  pub is_nonce_lem : term_in o.table new ≡ nonce p q
+  pub is_nonce : term_in o.table new ≡ nonce p q
   pub is_name : term_in o.table name ≡ datum p
   pub count : used o.table ≡ used t + length (named_lengths t p repeated)
 
@@ -321,7 +321,7 @@ module _ (t : Table) (sh : Shaped t) (p q : ℕ) (person : Person t p) (known re
     name = own.entry;
     posted = named_posted;
     is_fresh = term_out t fresh.entry (omega (arith, fresh_entry));
-    is_nonce_lem = creates_stays fresh_creates (grows_trans own_creates.grows (grows_trans inside_creates.grows after));
+    is_nonce = creates_stays fresh_creates (grows_trans own_creates.grows (grows_trans inside_creates.grows after));
     is_name = creates_stays own_creates (grows_trans inside_creates.grows after);
     count = after_used;
   })

@@ -61,7 +61,7 @@ module _ {t : Table} {p q : ℕ} {known repeated : List ℕ} {o : Outcome} (r : 
   named_tells : {ys : List ℕ} → ((e : ℕ) → Memᴰ e known → Learns o.table p ys e) → Tells (turn t r o) p ys
   named_tells {ys} f = post_tells r m.posted
       (each_append (Learns o.table p ys) known f
-      (each_cons (Learns o.table p ys) (makes q m.is_nonce_lem)
+      (each_cons (Learns o.table p ys) (makes q m.is_nonce)
       (each_cons (Learns o.table p ys) (names p m.is_name) (each_none (Learns o.table p ys)))))
 
 module _ (H : ℕ → Bool) (t : Table) (sh : Shaped t) (same : (p : ℕ) → honest t p ≡ H p) where
@@ -77,7 +77,7 @@ module _ (H : ℕ → Bool) (t : Table) (sh : Shaped t) (same : (p : ℕ) → ho
           told = m.posted.told;
           carries = posted_carries m.posted;
           is_name = m.is_name;
-          is_nonce_lem = m.is_nonce_lem;
+          is_nonce = m.is_nonce;
           is_fresh = m.is_fresh;
         })
         (post_hands (Start u v) m.posted) (named_tells (Start u v) m (each_none (Learns o.table u [])));
@@ -118,7 +118,7 @@ module _ (H : ℕ → Bool) (t : Table) (sh : Shaped t) (same : (p : ℕ) → ho
             told = m.posted.told;
             carries = posted_carries m.posted;
             is_name = m.is_name;
-            is_nonce_lem = m.is_nonce_lem;
+            is_nonce = m.is_nonce;
             is_fresh = m.is_fresh;
           })
           d.took is_y (post_hands asked m.posted) (named_tells asked m (d.learns m.posted.grows));
@@ -139,7 +139,7 @@ module _ (H : ℕ → Bool) (t : Table) (sh : Shaped t) (same : (p : ℕ) → ho
             told = m.told;
             took = d.took;
             is_name = is-z;
-            is_nonce_lem = is_x;
+            is_nonce = is_x;
             carries = posted_carries m;
           })
           (post_hands asked m) (post_tells asked m (d.learns m.grows));
@@ -148,7 +148,7 @@ module _ (H : ℕ → Bool) (t : Table) (sh : Shaped t) (same : (p : ℕ) → ho
     agreed : (n : ℕ) → Delivered t r h (n ∷ []) → term_in t n ≡ nonce r s → Followed H t asked (gives (accepted r s) (grant_each t r known))
     agreed n d is-n = record {
       grows = g;
-      moves = accepts r s n hr (record { given = h; beside = d.beside; asked = refl; told = refl; took = d.took; is_nonce_lem = is-n })
+      moves = accepts r s n hr (record { given = h; beside = d.beside; asked = refl; told = refl; took = d.took; is_nonce = is-n })
           (untouched_holds (each_untouched t r 0 known d.real (λ z. omega (arith, person.low))))
           (record {
             acting = λ e i. go e (each_holds t r known d.real e i);
@@ -180,13 +180,13 @@ module _ (H : ℕ → Bool) (t : Table) (sh : Shaped t) (same : (p : ℕ) → ho
   on_list : (s r h : ℕ) → may_act t r s ≡ true → Holds t 0 (entry_of t 0 h) → type_at t (entry_of t 0 h) ≡ list_type
       → Followed H t (Deliver s r h) (answer_message t r s (entry_of t 0 h) (read_message t r s (entry_of t 0 h)))
   unfolding read_message answer_message
-  on_list s r h may held is_list_lem =
+  on_list s r h may held list_type_is =
       let l = entry_of t 0 h in
       by_test (λ m. Followed H t (Deliver s r h) (answer_message t r s l m)) (is_for t r (sealed_in t l))
       (λ for.
-      let u = plain_used t sh r l held.uses is_list_lem for in
-      let i = plain_list t sh r l held.uses is_list_lem for in
-      on_message s r h may (understood t sh (plain_in t l) u i r s) (delivered t sh r l held.uses is_list_lem for h refl))
+      let u = plain_used t sh r l held.uses list_type_is for in
+      let i = plain_list t sh r l held.uses list_type_is for in
+      on_message s r h may (understood t sh (plain_in t l) u i r s) (delivered t sh r l held.uses list_type_is for h refl))
       (answers_only H t (Deliver s r h) 4 [] (omega arith))
 
   pub follow_deliver : (s r h : ℕ) → Followed H t (Deliver s r h) (deliver t s r h)
@@ -195,5 +195,5 @@ module _ (H : ℕ → Bool) (t : Table) (sh : Shaped t) (same : (p : ℕ) → ho
       by_need (Followed H t (Deliver s r h)) (may_act t r s) 3 t _
       (λ may. by_need (Followed H t (Deliver s r h)) (holds_handle t 0 h) 5 t _
       (λ held. by_need (Followed H t (Deliver s r h)) (is_list t (entry_of t 0 h)) 6 t _
-      (λ is_list_lem. on_list s r h may (handle_held t 0 h held) (eqb-true (type_at t (entry_of t 0 h)) list_type is_list_lem))
+      (λ list_type_is. on_list s r h may (handle_held t 0 h held) (eqb-true (type_at t (entry_of t 0 h)) list_type list_type_is))
       (refuses H t (Deliver s r h) 6)) (refuses H t (Deliver s r h) 5)) (refuses H t (Deliver s r h) 3)

@@ -55,7 +55,7 @@ pub record Starts (u v m : ℕ) (x : Turn) : Type 0 where
   pub told : x.answer ≡ sent u v handed
   pub carries : Carries x.after handed [] v (m ∷ name ∷ [])
   pub is_name : term_in x.after name ≡ datum u
-  pub is_nonce_lem : term_in x.after m ≡ nonce u v
+  pub is_nonce : term_in x.after m ≡ nonce u v
   pub is_fresh : term_in x.before m ≡ blank
 
 -- D4: v answered u with exactly m, a fresh nonce n and its own name
@@ -67,7 +67,7 @@ pub record Answers (v u m n : ℕ) (x : Turn) : Type 0 where
   pub told : x.answer ≡ sent v u handed
   pub carries : Carries x.after handed [] u (m ∷ n ∷ name ∷ [])
   pub is_name : term_in x.after name ≡ datum v
-  pub is_nonce_lem : term_in x.after n ≡ nonce v u
+  pub is_nonce : term_in x.after n ≡ nonce v u
   pub is_fresh : term_in x.before n ≡ blank
 
 -- D4: u, handed its own nonce m, then n and v's name, answered v with exactly n
@@ -81,7 +81,7 @@ pub record Replies (u v m n : ℕ) (x : Turn) : Type 0 where
   pub told : x.answer ≡ sent u v handed
   pub took : Carries x.before given beside u (m ∷ n ∷ name ∷ others)
   pub is_name : term_in x.before name ≡ datum v
-  pub is_nonce_lem : term_in x.before m ≡ nonce u v
+  pub is_nonce : term_in x.before m ≡ nonce u v
   pub carries : Carries x.after handed [] v (n ∷ [])
 
 -- D5: v accepted u on the nonce n
@@ -91,7 +91,7 @@ pub record Accepts (v u n : ℕ) (x : Turn) : Type 0 where
   pub asked : x.request ≡ Deliver u v given
   pub told : x.answer ≡ accepted v u
   pub took : Carries x.before given beside v (n ∷ [])
-  pub is_nonce_lem : term_in x.before n ≡ nonce v u
+  pub is_nonce : term_in x.before n ≡ nonce v u
 
 -- ---- D6: the honest run: u starts with v, and each message is delivered to whom it is meant for
 abbrev pub one : Table → ℕ → ℕ → Outcome
