@@ -24,7 +24,7 @@
  * which has its table there, and BENCH_PERFORM_STACK bytes for bench_perform. tests/run-host measures both anew by
  * host/stack.c and fails if one has grown.
  *
- * To link: `rt staticlib bench_calls` proves the calls and writes target/staticlib/libbench_calls.a, for x86-64 Linux;
+ * To link: `tools/build bench_calls` proves the calls and writes target/staticlib/libbench_calls.a, for x86-64 Linux;
  * then `gcc -I host YOUR.c target/staticlib/libbench_calls.a`. Of other code it needs C's memset alone.
  */
 #ifndef BENCH_H

@@ -4,56 +4,44 @@ use Rattle.rules.specs.Calls.{performs}
 use Rattle.bench_calls.proofs.Calling.{nothing_read, malformed_read, more_than_one, no_room, one_record}
 use Rattle.bench_calls.proofs.bench_perform.Goals as goal
 
-pub returns-then-next-bytes-clause-value : goal.returns-then-next-bytes-clause-value
-returns-then-next-bytes-clause-value c = rw (more_than_one _ _ _ _ _ c.read_record-read.ensures.read c.in-Record.is c.if-next-bytes.true) refl
+pub returns-then-next-bytes : goal.returns-then-next-bytes
+returns-then-next-bytes c =
+    let a = c.args in
+    let r = c.read_record-read in
+    let is = more_than_one a.bytes.now a.table.now a.answer.now r.result.step r.result.handles r.ensures.read c.in-Record.is c.if-next-bytes.true in
+    record { value = rw is refl; table_after = rw is refl; answer_after = rw is refl }
 
-pub returns-then-next-bytes-clause-table_after : goal.returns-then-next-bytes-clause-table_after
-returns-then-next-bytes-clause-table_after c = rw (more_than_one _ _ _ _ _ c.read_record-read.ensures.read c.in-Record.is c.if-next-bytes.true) refl
+pub returns-then-answer-lt4 : goal.returns-then-answer-lt4
+returns-then-answer-lt4 c =
+    let a = c.args in
+    let r = c.read_record-read in
+    let full = c.if-answer-lt4.true in
+    let is = no_room a.bytes.now a.table.now a.answer.now r.result.step r.result.handles r.ensures.read c.in-Record.is c.if-next-bytes.false full in
+    record { value = rw is refl; table_after = rw is refl; answer_after = rw is refl }
 
-pub returns-then-next-bytes-clause-answer_after : goal.returns-then-next-bytes-clause-answer_after
-returns-then-next-bytes-clause-answer_after c = rw (more_than_one _ _ _ _ _ c.read_record-read.ensures.read c.in-Record.is c.if-next-bytes.true) refl
-
-pub returns-then-answer-lt4-clause-value : goal.returns-then-answer-lt4-clause-value
-returns-then-answer-lt4-clause-value c = rw (no_room _ _ _ _ _ c.read_record-read.ensures.read c.in-Record.is c.if-next-bytes.false c.if-answer-lt4.true) refl
-
-pub returns-then-answer-lt4-clause-table_after : goal.returns-then-answer-lt4-clause-table_after
-returns-then-answer-lt4-clause-table_after c = rw (no_room _ _ _ _ _ c.read_record-read.ensures.read c.in-Record.is c.if-next-bytes.false c.if-answer-lt4.true) refl
-
-pub returns-then-answer-lt4-clause-answer_after : goal.returns-then-answer-lt4-clause-answer_after
-returns-then-answer-lt4-clause-answer_after c = rw (no_room _ _ _ _ _ c.read_record-read.ensures.read c.in-Record.is c.if-next-bytes.false c.if-answer-lt4.true) refl
-
-pub returns-else-answer-lt4-clause-value : goal.returns-else-answer-lt4-clause-value
+pub returns-else-answer-lt4 : goal.returns-else-answer-lt4
 unfolding performs
-returns-else-answer-lt4-clause-value c =
-    rw (one_record _ _ _ _ _ c.read_record-read.ensures.read c.in-Record.is c.if-next-bytes.false c.if-answer-lt4.false)
-    refl
+returns-else-answer-lt4 c =
+    let a = c.args in
+    let r = c.read_record-read in
+    let room = c.if-answer-lt4.false in
+    let is = one_record a.bytes.now a.table.now a.answer.now r.result.step r.result.handles r.ensures.read c.in-Record.is c.if-next-bytes.false room in
+    record {
+      value = rw is refl;
+      table_after = rw is c.perform-a.ensures.table;
+      answer_after = rw is (c.put_four.ensures ∙ rw (c.four_numbers.ensures, c.perform-a.ensures.answer) refl);
+    }
 
-pub returns-else-answer-lt4-clause-table_after : goal.returns-else-answer-lt4-clause-table_after
-unfolding performs
-returns-else-answer-lt4-clause-table_after c =
-    rw (one_record _ _ _ _ _ c.read_record-read.ensures.read c.in-Record.is c.if-next-bytes.false c.if-answer-lt4.false)
-    c.perform-a.ensures.table
+pub returns-in-End : goal.returns-in-End
+returns-in-End c =
+    let a = c.args in
+    let r = c.read_record-read in
+    let is = nothing_read a.bytes.now a.table.now a.answer.now r.result.step r.result.handles r.ensures.read c.in-End.is in
+    record { value = rw is refl; table_after = rw is refl; answer_after = rw is refl }
 
-pub returns-else-answer-lt4-clause-answer_after : goal.returns-else-answer-lt4-clause-answer_after
-unfolding performs
-returns-else-answer-lt4-clause-answer_after c =
-    rw (one_record _ _ _ _ _ c.read_record-read.ensures.read c.in-Record.is c.if-next-bytes.false c.if-answer-lt4.false)
-    (c.put_four.ensures ∙ rw (c.four_numbers.ensures, c.perform-a.ensures.answer) refl)
-
-pub returns-in-End-clause-value : goal.returns-in-End-clause-value
-returns-in-End-clause-value c = rw (nothing_read _ _ _ _ _ c.read_record-read.ensures.read c.in-End.is) refl
-
-pub returns-in-End-clause-table_after : goal.returns-in-End-clause-table_after
-returns-in-End-clause-table_after c = rw (nothing_read _ _ _ _ _ c.read_record-read.ensures.read c.in-End.is) refl
-
-pub returns-in-End-clause-answer_after : goal.returns-in-End-clause-answer_after
-returns-in-End-clause-answer_after c = rw (nothing_read _ _ _ _ _ c.read_record-read.ensures.read c.in-End.is) refl
-
-pub returns-in-Malformed-clause-value : goal.returns-in-Malformed-clause-value
-returns-in-Malformed-clause-value c = rw (malformed_read _ _ _ _ _ c.read_record-read.ensures.read c.in-Malformed.is) refl
-
-pub returns-in-Malformed-clause-table_after : goal.returns-in-Malformed-clause-table_after
-returns-in-Malformed-clause-table_after c = rw (malformed_read _ _ _ _ _ c.read_record-read.ensures.read c.in-Malformed.is) refl
-
-pub returns-in-Malformed-clause-answer_after : goal.returns-in-Malformed-clause-answer_after
-returns-in-Malformed-clause-answer_after c = rw (malformed_read _ _ _ _ _ c.read_record-read.ensures.read c.in-Malformed.is) refl
+pub returns-in-Malformed : goal.returns-in-Malformed
+returns-in-Malformed c =
+    let a = c.args in
+    let r = c.read_record-read in
+    let is = malformed_read a.bytes.now a.table.now a.answer.now r.result.step r.result.handles r.ensures.read c.in-Malformed.is in
+    record { value = rw is refl; table_after = rw is refl; answer_after = rw is refl }

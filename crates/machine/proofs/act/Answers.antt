@@ -4,82 +4,82 @@ use Rattle.rules.specs.Meaning.{asked}
 use Rattle.machine.proofs.Acting.{parse_table}
 use Rattle.machine.proofs.act.Goals as goal
 
-pub returns-in-SetUp-clause-answer : goal.returns-in-SetUp-clause-answer
+pub returns-in-SetUp : goal.returns-in-SetUp
 unfolding asked untested act
-returns-in-SetUp-clause-answer c = rw c.in-SetUp.is c.set_up.ensures.answer
+returns-in-SetUp c =
+    record {
+      answer = rw c.in-SetUp.is c.set_up.ensures.answer;
+      table = rw c.in-SetUp.is c.set_up.ensures.table;
+    }
 
-pub returns-in-SetUp-clause-table : goal.returns-in-SetUp-clause-table
+pub returns-in-Start : goal.returns-in-Start
 unfolding asked untested act
-returns-in-SetUp-clause-table c = rw c.in-SetUp.is c.set_up.ensures.table
+returns-in-Start c =
+    record {
+      answer = rw c.in-Start.is c.start.ensures.answer;
+      table = rw c.in-Start.is c.start.ensures.table;
+    }
 
-pub returns-in-Start-clause-answer : goal.returns-in-Start-clause-answer
+pub returns-in-Deliver : goal.returns-in-Deliver
 unfolding asked untested act
-returns-in-Start-clause-answer c = rw c.in-Start.is c.start.ensures.answer
+returns-in-Deliver c =
+    record {
+      answer = rw c.in-Deliver.is c.deliver.ensures.answer;
+      table = rw c.in-Deliver.is c.deliver.ensures.table;
+    }
 
-pub returns-in-Start-clause-table : goal.returns-in-Start-clause-table
+pub returns-in-Store : goal.returns-in-Store
 unfolding asked untested act
-returns-in-Start-clause-table c = rw c.in-Start.is c.start.ensures.table
+returns-in-Store c =
+    record {
+      answer = rw c.in-Store.is c.store.ensures.answer;
+      table = rw c.in-Store.is c.store.ensures.table;
+    }
 
-pub returns-in-Deliver-clause-answer : goal.returns-in-Deliver-clause-answer
+pub returns-in-Nonce : goal.returns-in-Nonce
 unfolding asked untested act
-returns-in-Deliver-clause-answer c = rw c.in-Deliver.is c.deliver.ensures.answer
+returns-in-Nonce c =
+    record {
+      answer = rw c.in-Nonce.is c.nonce.ensures.answer;
+      table = rw c.in-Nonce.is c.nonce.ensures.table;
+    }
 
-pub returns-in-Deliver-clause-table : goal.returns-in-Deliver-clause-table
+pub returns-in-List : goal.returns-in-List
 unfolding asked untested act
-returns-in-Deliver-clause-table c = rw c.in-Deliver.is c.deliver.ensures.table
+returns-in-List c =
+    record {
+      answer = rw c.in-List.is c.list.ensures.answer;
+      table = rw c.in-List.is c.list.ensures.table;
+    }
 
-pub returns-in-Store-clause-answer : goal.returns-in-Store-clause-answer
+pub returns-in-Project : goal.returns-in-Project
 unfolding asked untested act
-returns-in-Store-clause-answer c = rw c.in-Store.is c.store.ensures.answer
+returns-in-Project c =
+    record {
+      answer = rw c.in-Project.is c.project.ensures.answer;
+      table = rw c.in-Project.is c.project.ensures.table;
+    }
 
-pub returns-in-Store-clause-table : goal.returns-in-Store-clause-table
+pub returns-in-Encrypt : goal.returns-in-Encrypt
 unfolding asked untested act
-returns-in-Store-clause-table c = rw c.in-Store.is c.store.ensures.table
+returns-in-Encrypt c =
+    record {
+      answer = rw c.in-Encrypt.is c.encrypt.ensures.answer;
+      table = rw c.in-Encrypt.is c.encrypt.ensures.table;
+    }
 
-pub returns-in-Nonce-clause-answer : goal.returns-in-Nonce-clause-answer
+pub returns-in-Decrypt : goal.returns-in-Decrypt
 unfolding asked untested act
-returns-in-Nonce-clause-answer c = rw c.in-Nonce.is c.nonce.ensures.answer
+returns-in-Decrypt c =
+    record {
+      answer = rw c.in-Decrypt.is c.decrypt.ensures.answer;
+      table = rw c.in-Decrypt.is c.decrypt.ensures.table;
+    }
 
-pub returns-in-Nonce-clause-table : goal.returns-in-Nonce-clause-table
+pub returns-in-Parse : goal.returns-in-Parse
 unfolding asked untested act
-returns-in-Nonce-clause-table c = rw c.in-Nonce.is c.nonce.ensures.table
-
-pub returns-in-List-clause-answer : goal.returns-in-List-clause-answer
-unfolding asked untested act
-returns-in-List-clause-answer c = rw c.in-List.is c.list.ensures.answer
-
-pub returns-in-List-clause-table : goal.returns-in-List-clause-table
-unfolding asked untested act
-returns-in-List-clause-table c = rw c.in-List.is c.list.ensures.table
-
-pub returns-in-Project-clause-answer : goal.returns-in-Project-clause-answer
-unfolding asked untested act
-returns-in-Project-clause-answer c = rw c.in-Project.is c.project.ensures.answer
-
-pub returns-in-Project-clause-table : goal.returns-in-Project-clause-table
-unfolding asked untested act
-returns-in-Project-clause-table c = rw c.in-Project.is c.project.ensures.table
-
-pub returns-in-Encrypt-clause-answer : goal.returns-in-Encrypt-clause-answer
-unfolding asked untested act
-returns-in-Encrypt-clause-answer c = rw c.in-Encrypt.is c.encrypt.ensures.answer
-
-pub returns-in-Encrypt-clause-table : goal.returns-in-Encrypt-clause-table
-unfolding asked untested act
-returns-in-Encrypt-clause-table c = rw c.in-Encrypt.is c.encrypt.ensures.table
-
-pub returns-in-Decrypt-clause-answer : goal.returns-in-Decrypt-clause-answer
-unfolding asked untested act
-returns-in-Decrypt-clause-answer c = rw c.in-Decrypt.is c.decrypt.ensures.answer
-
-pub returns-in-Decrypt-clause-table : goal.returns-in-Decrypt-clause-table
-unfolding asked untested act
-returns-in-Decrypt-clause-table c = rw c.in-Decrypt.is c.decrypt.ensures.table
-
-pub returns-in-Parse-clause-answer : goal.returns-in-Parse-clause-answer
-unfolding asked untested act
-returns-in-Parse-clause-answer c = rw c.in-Parse.is c.parse.ensures
-
-pub returns-in-Parse-clause-table : goal.returns-in-Parse-clause-table
-unfolding asked untested act
-returns-in-Parse-clause-table c = rw c.in-Parse.is (parse_table _ _)
+returns-in-Parse c =
+    record {
+      answer = rw c.in-Parse.is c.parse.ensures;
+      table = rw c.in-Parse.is (parse_table _ _);
+    }

@@ -8,27 +8,27 @@ use Rattle.rules.specs.Session.{body_lengths, is_within}
 use Rattle.rules.proofs.RoundTrip.{body_long, body_unfit}
 use Rattle.session.proofs.read_body.Goals as goal
 
-pub returns-then-file-b-clause-read : goal.returns-then-file-b-clause-read
+pub returns-then-file-b : goal.returns-then-file-b
 unfolding read_as beside four_handles
-returns-then-file-b-clause-read c = rw (body_long _ _ _ c.if-file-b.true) refl
-
-pub returns-then-file-b-clause-handles : goal.returns-then-file-b-clause-handles
-unfolding read_as beside four_handles
-returns-then-file-b-clause-handles c = rw (body_long _ _ _ c.if-file-b.true) refl
+returns-then-file-b c =
+    record {
+      read = rw (body_long _ _ _ c.if-file-b.true) refl;
+      handles = rw (body_long _ _ _ c.if-file-b.true) refl;
+    }
 
 pub record_at-requires : goal.record_at-requires
 record_at-requires c = record { within = omega arith; length = rw (← c.byte_at.ensures, ← c.lengths_of-lengths.ensures, ← c.is_within.ensures) c.if-is_within.true }
 
-pub returns-clause-read : goal.returns-clause-read
+pub returns : goal.returns
 unfolding read_as beside four_handles
-returns-clause-read c = let a = c.args in
-    let e : is_within (body_lengths (get_or a.file.now a.b 0)) a.l ≡ false =
-    rw (← c.byte_at.ensures, ← c.lengths_of-lengths.ensures, ← c.is_within.ensures) c.if-is_within.false in
-    rw (body_unfit a.file.now a.b a.l c.if-file-b.false e) refl
-
-pub returns-clause-handles : goal.returns-clause-handles
-unfolding read_as beside four_handles
-returns-clause-handles c = let a = c.args in
-    let e : is_within (body_lengths (get_or a.file.now a.b 0)) a.l ≡ false =
-    rw (← c.byte_at.ensures, ← c.lengths_of-lengths.ensures, ← c.is_within.ensures) c.if-is_within.false in
-    rw (body_unfit a.file.now a.b a.l c.if-file-b.false e) refl
+returns c =
+    record {
+      read = let a = c.args in
+          let e : is_within (body_lengths (get_or a.file.now a.b 0)) a.l ≡ false =
+          rw (← c.byte_at.ensures, ← c.lengths_of-lengths.ensures, ← c.is_within.ensures) c.if-is_within.false in
+          rw (body_unfit a.file.now a.b a.l c.if-file-b.false e) refl;
+      handles = let a = c.args in
+          let e : is_within (body_lengths (get_or a.file.now a.b 0)) a.l ≡ false =
+          rw (← c.byte_at.ensures, ← c.lengths_of-lengths.ensures, ← c.is_within.ensures) c.if-is_within.false in
+          rw (body_unfit a.file.now a.b a.l c.if-file-b.false e) refl;
+    }

@@ -16,6 +16,6 @@ returns-then-not-room c =
 
 pub returns : goal.returns
 returns c =
-    let short : c.sealed_is_short-short.result ≡ true = c.if-not-short.false in
+    let fits : c.sealed_is_short-short.result ≡ true = c.if-not-short.false in
     let there : c.has_room-room.result ≡ true = c.if-not-room.false in
-    rw (← c.sealed_is_short-short.ensures, short, ← c.has_room-room.ensures, there) refl
+    rw (← c.sealed_is_short-short.ensures, fits, ← c.has_room-room.ensures, there) refl

@@ -1,7 +1,7 @@
 //! Compares the proved code with the reference, by the two calls from C:
 //! `compare COUNT [SEED [ROUND]] [--fault NAME]`.
 //!
-//! It links the archive that `rt staticlib bench_calls` writes. Its last
+//! It links the archive that `tools/build bench_calls` writes. Its last
 //! lines are what occurred; the status is 0 if all agree, 1 at the first case
 //! that differs, which is made small and printed. With a fault, a stand-in
 //! does something wrong on purpose. `tools/compare-code` builds and runs it.
