@@ -1,5 +1,4 @@
 -- `commands::look_up_two` meets its contract: it says that both are held just where both look-ups find an entry, and gives those two.
---
 use mathlib.Core.Path.{refl, sym}
 use Rattle.rules.proofs.Logic.{never, both}
 use Rattle.commands.proofs.Ways.{held, held_at, unheld}

@@ -1,5 +1,4 @@
 -- `commands::may_be_listed` meets its contract: when entry i is reached the first i may be listed, so the first that may not decides.
---
 use native.Mathlib.Omega.{arith}
 use mathlib.Core.Path.{◌≡◌, sym, ap, ◌∙◌}
 use lib.ListN.{length}

@@ -1,5 +1,4 @@
 -- `commands::may_be_listed` meets its contract: when entry i is reached the first i may be listed, so the first that may not decides.
---
 use Prim.Native.Nat.{◌-◌, ◌≤◌}
 use mathlib.Core.Path.{◌≡◌}
 use mathlib.Core.Bool.{true}

@@ -1,5 +1,4 @@
 -- `commands::sum_of_lengths` meets its contract: when entry i is reached the sum is that of the first i, each at most 65535.
---
 use native.Mathlib.Omega.{arith}
 use mathlib.Core.Path.{◌≡◌, refl, sym, ap, ◌∙◌}
 use lib.ListN.{length}

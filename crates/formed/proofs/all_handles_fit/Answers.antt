@@ -1,5 +1,4 @@
 -- `formed::all_handles_fit` meets its contract: the handles are counted, and when knower k is reached those of all below it fit.
---
 use native.Mathlib.Omega.{arith}
 use mathlib.Core.Path.{sym}
 use borrow.Author.Count.{below_more}

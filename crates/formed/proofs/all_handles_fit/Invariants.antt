@@ -1,5 +1,4 @@
 -- `formed::all_handles_fit` meets its contract: the handles are counted, and when knower k is reached those of all below it fit.
---
 use Prim.Native.Nat.{ℕ, ◌+◌, ◌-◌, ◌≤◌, ◌<◌}
 use mathlib.Core.Path.{◌≡◌}
 use mathlib.Core.Bool.{true}

@@ -10,6 +10,7 @@ use Rattle.rules.proofs.Words.{most_high}
 use Rattle.formed.specs.Keys.{named_for, is_key_of}
 use Rattle.formed.proofs.keys_fit.Goals as goal
 
+-- the rule's two keys are this key of either type
 secret_is : (t : Table) (p e : ℕ) → is_key_of t secret_key_type p e ≡ is_secret_key_of t p e
 unfolding is_key_of named_for is_secret_key_of
 secret_is t p e = refl

@@ -1,5 +1,4 @@
 -- `handles::entry_of` meets its contract: a handle other than 0 names the entries that have it as the knower's word.
---
 use Prim.Native.Nat.{ℕ, ◌+◌, ◌≤◌, ◌<◌}
 use native.Mathlib.Omega.{arith}
 use mathlib.Core.Path.{◌≡◌, refl, sym}

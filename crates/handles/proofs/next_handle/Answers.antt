@@ -1,5 +1,4 @@
 -- `handles::next_handle` meets its contract: past the form's knowers the rule is guarded too, and below them the word's place is small.
---
 use native.Mathlib.Omega.{arith}
 use mathlib.Core.Path.{sym, ◌∙◌}
 use Rattle.rules.proofs.Words.{most_high}

@@ -1,5 +1,4 @@
 -- `room::has_room` meets its contract: what is left is the difference, and nothing is left where more is used than there is.
---
 use mathlib.Core.Path.{refl}
 use Rattle.room.proofs.Rooms.{none_left}
 use Rattle.room.proofs.has_room.Goals as goal

@@ -1,5 +1,4 @@
 -- `rows::next_with` meets its contract: a row always starts at the place, and none above e up to that row has both words.
---
 use Prim.Native.Nat.{ℕ, ◌*◌, ◌<◌}
 use native.Mathlib.Omega.{arith}
 use mathlib.Core.Path.{◌≡◌, ap}
@@ -9,6 +8,7 @@ use Rattle.rows.proofs.Places.{place_low}
 use Rattle.rows.proofs.Search.{reached_first, reached_more, more_fits, found_low, reached_found, reached_last}
 use Rattle.rows.proofs.next_with.Goals as goal
 
+-- where the last used row starts, by what `used` gave
 last_is : (t : Table) (m u : ℕ) → u ≡ used t → m * u ≡ m * used t
 last_is t m u q = ap (λ (x : ℕ). m * x) q
 

@@ -1,5 +1,4 @@
 -- `rows::next_with` meets its contract: a row always starts at the place, and none above e up to that row has both words.
---
 use Prim.Native.Nat.{◌-◌}
 use Rattle.rows.specs.Search.{has_both, Reached}
 use Rattle.rows.proofs.next_with.Given as goal

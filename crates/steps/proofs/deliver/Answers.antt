@@ -1,5 +1,4 @@
 -- `steps::deliver` meets its contract: who may not act and a handle that names nothing are refused, else the list is delivered.
---
 use mathlib.Core.Path.{sym, ap, ◌∙◌}
 use Rattle.rules.specs.Meaning.{said, found_at}
 use Rattle.rules.proofs.Needs.{halves, ends}

@@ -1,5 +1,4 @@
 -- `steps::deliver_list` meets its contract: what is no list is refused, what is not taken is dropped, the rest answered.
---
 use mathlib.Core.Path.{sym, ◌∙◌}
 use Rattle.rules.specs.Meaning.{said}
 use Rattle.rules.proofs.Needs.{halves, ends}

@@ -1,5 +1,4 @@
 -- `text::word` meets its contract: if all fits, after i turns the first i bytes of the word are written, and else `cut` writes those that do.
---
 use native.Mathlib.Omega.{arith}
 use mathlib.Core.Path.{◌≡◌, refl}
 use lib.ListN.{length}

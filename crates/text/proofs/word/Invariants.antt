@@ -1,5 +1,4 @@
 -- `text::word` meets its contract: if all fits, after i turns the first i bytes of the word are written, and else `cut` writes those that do.
---
 use Prim.Native.Nat.{◌+◌, ◌-◌, ◌≤◌}
 use lib.ListN.{length, take}
 use Rattle.text.specs.Put.{Put}
