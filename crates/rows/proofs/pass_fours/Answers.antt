@@ -10,6 +10,7 @@ use Rattle.rows.specs.Search.{Passes}
 use Rattle.rows.proofs.Search.{passes_more}
 use Rattle.rows.proofs.pass_fours.Goals as goal
 
+-- the rows of one turn, m apart
 module _ (t : Table) (k v m from at : ℕ) (width : m ≡ row_width t) (p : Passes t k v from at) (h : get_or t (at + m + k) 0 ≢ v) where
   first : Passes t k v from (at + m)
   first = passes_more t k v m from at width h p

@@ -7,6 +7,7 @@ use Rattle.rules.specs.Table.{Table, most, raised, put, with_row}
 use Rattle.rules.specs.Terms.{new_entry, add_entry}
 use Rattle.terms.proofs.create.Goals as goal
 
+-- the row written, and then the number of used entries
 create_goes : (t mid last : Table) (ns : List ℕ) (n : ℕ) → n ≡ new_entry t → mid ≡ with_row t n (ns ++ replicate (1 + most t) 0)
     → last ≡ put mid 0 4 n → last ≡ add_entry t ns
 unfolding add_entry
