@@ -50,9 +50,6 @@ rows-word = rows-unique.word
 pub rows-put : Tight rows.put.ended (λ M 𝓤. rows.put.clauses)
 rows-put = rows-unique.put
 
-pub rows-clear : Tight rows.clear.ended (λ M 𝓤. rows.clear.clauses)
-rows-clear = rows-unique.clear
-
 pub rows-write_entry : Tight rows.write_entry.ended (λ M 𝓤. rows.write_entry.clauses)
 rows-write_entry = rows-unique.write_entry
 

@@ -1,14 +1,16 @@
--- Laws of the four numbers beside a command, and of when a list can be asked for. Assumes nothing.
-use Prim.Native.Nat.{ℕ, zero, suc, ◌+◌, ◌≤◌, ◌<◌}
+-- Laws of the numbers of a list's four handles, and of when it can be asked for. Assumes nothing.
+use Prim.Native.Nat.{ℕ, zero, suc, ◌-◌, ◌≤◌, ◌<◌}
 use native.Mathlib.Omega.{arith}
-use native.Mathlib.Numerals.{add-one}
-use mathlib.Core.Path.{◌≡◌, refl, sym, ◌∙◌}
+use mathlib.Core.Path.{◌≡◌, refl, ◌∙◌}
 use mathlib.Core.Bool.{Bool, true, false}
-use mathlib.Core.List.{List}
+use mathlib.Core.List.{List, [], ◌∷◌, map}
 use lib.Dec.{eqb, leb}
-use lib.ListN.{get_or, drop, drop_of_length-le}
-use lib.Seq.{drop-cons}
-use borrow.Author.Tests.{eq-eqb, ne_eqb, leb-true}
+use lib.ListN.{length, get_or, take, drop}
+use borrow.Author.Tests.{le-leb, leb-true}
+use Rattle.std.specs.Prelude.{◌&&◌}
+use Rattle.std.specs.List.{list_all}
+use Rattle.std.proofs.lemmas.List.{drop-map, take_all}
+use Rattle.std.proofs.Common.{length-drop}
 use Rattle.rules.specs.Choice.{◌and◌, every, is_zero}
 use Rattle.rules.specs.Commands.{list_is_asked}
 use Rattle.rules.specs.Meaning.{beside_at}
@@ -30,18 +32,30 @@ pub asked_fits : (k : ℕ) (hs : List ℕ) → list_is_asked k hs ≡ true → k
 unfolding list_is_asked
 asked_fits k hs p = leb-true k 4 (and_left (leb k 4) _ (and_right (leb 1 k) _ p))
 
--- ---- zeros from number i on, one further
-module _ (hs : List Handle) (i : ℕ) {b : Bool} (e : b ≡ every is_zero (drop i (numbers_beside hs))) where
-  zeros_more : i < 4 → b ≡ (eqb (get_or hs i (record { 0 = 0 })).0 0 and every is_zero (drop (i + 1) (numbers_beside hs)))
-  unfolding every is_zero
-  zeros_more h = rw (e, add-one, drop-cons (numbers_beside hs) i 0 h, number_beside hs i h) refl
+-- the numbers are those of the array's four handles
+numbers_are : (hs : List Handle) → length hs ≡ 4 → numbers_beside hs ≡ map (λ (h : Handle). h.0) hs
+unfolding beside_at
+numbers_are (a ∷ b ∷ c ∷ d ∷ []) l = refl
+numbers_are (a ∷ b ∷ c ∷ d ∷ e ∷ hs) l = absurd (omega arith)
+numbers_are (a ∷ b ∷ c ∷ []) l = absurd (omega arith)
+numbers_are (a ∷ b ∷ []) l = absurd (omega arith)
+numbers_are (a ∷ []) l = absurd (omega arith)
+numbers_are [] l = absurd (omega arith)
 
-  pub zeros_next : i < 4 → (get_or hs i (record { 0 = 0 })).0 ≡ 0 → b ≡ every is_zero (drop (i + 1) (numbers_beside hs))
-  zeros_next h z = zeros_more h ∙ rw (eq-eqb _ _ z) refl
+-- each of them is zero if each handle's is
+all_zero : (hs : List Handle) → list_all (λ (h : Handle). eqb h.0 0) hs ≡ every is_zero (map (λ (h : Handle). h.0) hs)
+unfolding every is_zero
+all_zero [] = refl
+all_zero (h ∷ hs) = go (eqb h.0 0) _ _ (all_zero hs)
+  where
+    go : (b c d : Bool) → c ≡ d → (b && c) ≡ (b and d)
+    go true c d e = e
+    go false c d e = refl
 
-  pub zeros_stop : i < 4 → ((get_or hs i (record { 0 = 0 })).0 ≡ 0 → ⊥) → false ≡ b
-  zeros_stop h z = sym (zeros_more h ∙ rw (ne_eqb _ _ z) refl)
-
-  pub zeros_end : 4 ≤ i → true ≡ b
-  unfolding every
-  zeros_end h = sym (e ∙ rw (drop_of_length-le (numbers_beside hs) h) refl)
+-- the handles from number k on decide
+pub zeros_left : (hs : List Handle) (k n : ℕ) (b : Bool) → length hs ≡ 4 → 1 ≤ k → k ≤ 4 → n ≡ k
+    → b ≡ list_all (λ (h : Handle). eqb h.0 0) (take (4 - n) (drop n hs)) → b ≡ list_is_asked k (numbers_beside hs)
+unfolding list_is_asked
+zeros_left hs k n b l low high e q =
+    let short : length (drop n hs) ≤ 4 - n = omega (arith, length-drop n hs) in
+    q ∙ rw (take_all (4 - n) (drop n hs) short, e, le-leb 1 k low, le-leb k 4 high, numbers_are hs l, drop-map (λ (h : Handle). h.0) k hs) (all_zero (drop k hs))

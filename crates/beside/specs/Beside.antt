@@ -1,4 +1,4 @@
--- The numbers of the four handles that stand beside a command (rule C3).
+-- The numbers of a list's four handles (rule C3).
 use Rattle.std.specs.Prelude.{ℕ, List, [], ◌∷◌}
 use Rattle.rules.specs.Meaning.{beside_at}
 use Rattle.rules.specs.declared.Handle.{Handle}

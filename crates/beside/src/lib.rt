@@ -1,4 +1,4 @@
-// The four handles that stand beside a command, and when a list can be asked for (rule C3).
+// When a list can be asked for by its count and four handles (rule C3).
 #![tactic(auto)]
 
 ghost use Rattle.std.specs.Prelude.{◌≡◌};
@@ -11,18 +11,8 @@ use rules::Handle;
 pub fn list_is_asked(count: u16, handles: [Handle; 4]) -> bool
     ensures { result ≡ list_is_asked count (numbers_beside handles) }
 {
-    if count < 1 {
-        return false;
-    }
-    if 4 < count {
-        return false;
-    }
-    let mut i = count as usize;
-    while i < 4 {
-        if handles[i].0 != 0 {
-            return false;
-        }
-        i += 1;
-    }
-    true
+    (1..=4).contains(&count)
+        && handles[usize::from(count)..]
+            .iter()
+            .all(|&h| h == Handle(0))
 }

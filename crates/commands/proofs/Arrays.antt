@@ -1,15 +1,22 @@
 -- Tests and sums over the first numbers of an array, one further; and the first of four handles put through a function. Assumes nothing.
-use Prim.Native.Nat.{ℕ, zero, suc, ◌+◌, ◌≤◌, ◌<◌}
+use Rattle.std.specs.List.{list_all, sum_by}
+use Rattle.std.proofs.lemmas.List.Sums.{sum_by-cons}
+use Rattle.std.proofs.lemmas.List.{get_or-take}
+use Prim.Native.Nat.{ℕ, zero, suc, ◌+◌, ◌*◌, ◌≤◌, ◌<◌}
 use native.Mathlib.Numerals.{add-one}
 use native.Mathlib.Omega.{arith}
 use mathlib.Core.Path.{◌≡◌, refl, sym, ap, ◌∙◌}
-use mathlib.Core.Bool.{Bool, true, false}
+use mathlib.Core.Bool.{Bool, true, false, ◌&&◌}
 use mathlib.Core.List.{List, [], ◌∷◌, ◌++◌, map}
 use lib.ListN.{length, get_or, set, take, replicate}
-use Rattle.rules.specs.Choice.{every, sum_of}
+use lib.Seq.{take-nil}
+use Rattle.rules.specs.Choice.{◌and◌, every, sum_of}
+use Rattle.rules.specs.declared.Entry.{Entry}
 use Rattle.rules.specs.declared.Handle.{Handle}
+use Rattle.terms.specs.Elements.{numbers}
 use Rattle.rules.proofs.Logic.{and_left, and_right, both, never, fails, every_at, mem_take}
 use Rattle.beside.specs.Beside.{numbers_beside}
+use Rattle.beside.proofs.Asked.{number_beside}
 
 -- ---- over the first i + 1 numbers
 pub every_none : (f : ℕ → Bool) (xs : List ℕ) → every f (take 0 xs) ≡ true
@@ -29,18 +36,35 @@ every_next f i xs p q = rw add-one (every_suc f i xs p q)
 pub every_fails : (f : ℕ → Bool) (n i : ℕ) (xs : List ℕ) → i < n → i < length xs → f (get_or xs i 0) ≡ false → every f (take n xs) ≡ false
 every_fails f n i xs a b q = fails (every f (take n xs)) (λ h. never (every_at f (take n xs) h (get_or xs i 0) (mem_take n xs i a b)) q)
 
-pub sum_none : (f : ℕ → ℕ) (xs : List ℕ) → sum_of f (take 0 xs) ≡ 0
-unfolding sum_of
-sum_none f xs = refl
+-- ---- over the numbers of entries
+pub also : (a b : Bool) → (a && b) ≡ a and b
+also true b = refl
+also false b = refl
 
-sum_suc : (f : ℕ → ℕ) (i : ℕ) (xs : List ℕ) → i < length xs → sum_of f (take (suc i) xs) ≡ sum_of f (take i xs) + f (get_or xs i 0)
-unfolding sum_of
-sum_suc f i [] h = absurd (omega arith)
-sum_suc f zero (x ∷ xs) h = omega arith
-sum_suc f (suc i) (x ∷ xs) h = omega (arith, sum_suc f i xs (omega arith))
+pub every_numbers : (f : ℕ → Bool) (es : List Entry) → list_all (λ (e : Entry). f e.0) es ≡ every f (numbers es)
+unfolding every
+every_numbers f [] = refl
+every_numbers f (e ∷ es) = rw (every_numbers f es) (also (f e.0) (every f (numbers es)))
 
-pub sum_next : (f : ℕ → ℕ) (i : ℕ) (xs : List ℕ) → i < length xs → sum_of f (take (i + 1) xs) ≡ sum_of f (take i xs) + f (get_or xs i 0)
-sum_next f i xs h = rw add-one (sum_suc f i xs h)
+pub sum_numbers : (f : ℕ → ℕ) (es : List Entry) → sum_by (λ (e : Entry). f e.0) es ≡ sum_of f (numbers es)
+unfolding sum_of
+sum_numbers f [] = refl
+sum_numbers f (e ∷ es) = sum_by-cons (λ (x : Entry). f x.0) e es ∙ ap (λ (n : ℕ). f e.0 + n) (sum_numbers f es)
+
+-- where none is over m
+pub sum_most : (f : ℕ → ℕ) (m : ℕ) → ((x : ℕ) → f x ≤ m) → (xs : List ℕ) → sum_of f xs ≤ m * length xs
+unfolding sum_of
+sum_most f m h [] = omega arith
+sum_most f m h (x ∷ xs) = omega (arith, h x, sum_most f m h xs)
+
+numbers_take : (n : ℕ) (es : List Entry) → numbers (take n es) ≡ take n (numbers es)
+numbers_take n [] = ap numbers (take-nil {A = Entry} n) ∙ sym (take-nil {A = ℕ} n)
+numbers_take zero (e ∷ es) = refl
+numbers_take (suc n) (e ∷ es) = ap (λ (xs : List ℕ). e.0 ∷ xs) (numbers_take n es)
+
+-- the first n entries, where m is n in another type of the code
+pub numbers_first : (m n : ℕ) (es : List Entry) → m ≡ n → numbers (take m es) ≡ take n (numbers es)
+numbers_first m n es same = rw same (numbers_take n es)
 
 -- ---- the first i numbers through f, and zeros after them
 abbrev pub through : (ℕ → ℕ) → ℕ → List ℕ → List ℕ
@@ -56,7 +80,11 @@ through_suc f (suc i) (x ∷ xs) = ap (λ (ys : List ℕ). f x ∷ ys) (through_
 pub through_next : (f : ℕ → ℕ) (i : ℕ) (xs : List ℕ) → set (through f i xs) i (f (get_or xs i 0)) ≡ through f (i + 1) xs
 through_next f i xs = rw add-one (through_suc f i xs)
 
--- of the numbers beside a command
+-- number i of a list's four is that of handle i of the first n
+pub beside_first : (hs : List Handle) (i n : ℕ) → i < 4 → i < n → get_or (numbers_beside hs) i 0 ≡ (get_or (take n hs) i (record { 0 = 0 })).0
+beside_first hs i n few within = number_beside hs i few ∙ ap (λ (h : Handle). h.0) (sym (get_or-take n hs i (record { 0 = 0 }) within))
+
+-- of the numbers of a list's handles
 module _ (f : ℕ → ℕ) (hs : List Handle) where
   -- all four with the zeros, and the first n of them
   pub through_all : (n : ℕ) → n ≤ 4

@@ -1,13 +1,12 @@
 -- The ways that making a list goes (rule C3). Assumes nothing.
-use Prim.Native.Nat.{ℕ, ◌+◌, ◌≤◌}
+use Prim.Native.Nat.{ℕ, ◌+◌, ◌≤◌, ◌<◌}
 use native.Mathlib.Omega.{arith}
 use mathlib.Core.Path.{◌≡◌, refl, sym, ap, ◌∙◌}
 use mathlib.Core.Bool.{true, false}
 use mathlib.Core.List.{List, [], ◌∷◌, ◌++◌, map}
-use lib.ListN.{length, take, replicate, length-take}
-use borrow.Author.Tests.{eq-eqb, ne_eqb}
+use lib.ListN.{length, get_or, take, replicate, length-take}
 use Rattle.rules.specs.Choice.{every, sum_of}
-use Rattle.rules.specs.Table.{Table, type_at, length_at}
+use Rattle.rules.specs.Table.{Table, length_at}
 use Rattle.rules.specs.Terms.{list, type_of, arguments_of, numbers_of, list_length, length_of, new_entry, add_entry, find_list}
 use Rattle.rules.specs.Handles.{entry_of, holds_handle}
 use Rattle.rules.specs.Outcome.{gives, refused, need_room, gives_handle}
@@ -19,15 +18,6 @@ use Rattle.terms.specs.Elements.{numbers}
 use Rattle.terms.proofs.Numbers.{number_at, numbers_length}
 use Rattle.commands.proofs.Ways.{need_fails, gives_new}
 
--- ---- what may not be listed
-pub secret : (t : Table) (e y : ℕ) → y ≡ type_at t e → y ≡ 5 → may_be_listed t e ≡ false
-unfolding may_be_listed
-secret t e y p q = rw (eq-eqb (type_at t e) 5 (sym p ∙ q)) refl
-
-pub no_secret : (t : Table) (e y : ℕ) → y ≡ type_at t e → (y ≡ 5 → ⊥) → may_be_listed t e ≡ true
-unfolding may_be_listed
-no_secret t e y p q = rw (ne_eqb (type_at t e) 5 (λ r. q (p ∙ r))) refl
-
 -- ---- of entries
 module _ (t : Table) (xs : List ℕ) where
   pub secret_listed : every (may_be_listed t) xs ≡ false → make_list_of t xs ≡ gives (refused 6) t
@@ -38,17 +28,16 @@ module _ (t : Table) (xs : List ℕ) where
   unfolding make_list_of
   none_secret p = need_goes 6 t _ p
 
--- the new list of the first n of four entries, after which there are zeros
-pub new_list : (t : Table) (n : ℕ) (es : List Entry) (s : ℕ) → n ≤ 4 → length es ≡ 4
+-- the new list of the first n of four entries, after which there are zeros; ns are the four numbers
+pub new_list : (t : Table) (n : ℕ) (es : List Entry) (ns : List ℕ) (s : ℕ) → n ≤ 4 → length es ≡ 4 → ((i : ℕ) → i < 4 → get_or ns i 0 ≡ number_at es i)
     → numbers es ≡ take 4 (take n (numbers es) ++ replicate 4 0) → s ≡ sum_of (length_at t) (take n (numbers es))
     → give_new t (list (take n (numbers es)))
-    ≡ need_room t ((2 + s) ∷ [])
-    (gives_handle (add_entry t (seven 3 n (number_at es 0 ∷ number_at es 1 ∷ number_at es 2 ∷ number_at es 3 ∷ []) (2 + s))) (new_entry t))
+    ≡ need_room t ((2 + s) ∷ []) (gives_handle (add_entry t (seven 3 n ns (2 + s))) (new_entry t))
 unfolding type_of arguments_of numbers_of list_length length_of seven
-new_list t n es s l four zeros sum =
-    gives_new t (list (take n (numbers es))) (2 + s) (seven 3 n (number_at es 0 ∷ number_at es 1 ∷ number_at es 2 ∷ number_at es 3 ∷ []) (2 + s))
+new_list t n es ns s l four at zeros sum =
+    gives_new t (list (take n (numbers es))) (2 + s) (seven 3 n ns (2 + s))
     (ap (λ (x : ℕ). 2 + x) (sym sum))
-    (rw (count, ← zeros) (ap (λ (ys : List ℕ). 3 ∷ n ∷ ys) (go es four)))
+    (rw (count, ← zeros, at 0 (omega arith), at 1 (omega arith), at 2 (omega arith), at 3 (omega arith)) (ap (λ (ys : List ℕ). 3 ∷ n ∷ ys) (go es four)))
   where
     count : length (take n (numbers es)) ≡ n
     count = length-take n (numbers es) ∙ omega (arith, numbers_length es)

@@ -1,48 +1,51 @@
 -- What an entry's value is, by its type, and the ways that parsing goes (rule C7). Assumes nothing.
-use Prim.Native.Nat.{ℕ, ◌≤◌}
-use native.Mathlib.Omega.{arith}
-use native.Mathlib.Decide.{ℕ_discrete}
-use mathlib.Core.Path.{◌≡◌, refl, sym, ◌∙◌}
+use Prim.Native.Nat.{ℕ}
+use mathlib.Core.Path.{◌≡◌, refl, sym, ap, ◌∙◌}
+use mathlib.Core.Logic.{◌⊎◌, inl, inr}
 use mathlib.Core.Bool.{true, false}
 use borrow.Author.Tests.{ne_eqb}
 use Rattle.rules.specs.Table.{Table, type_at, count_at, argument, length_at, handle}
 use Rattle.rules.specs.Handles.{entry_of, holds_handle}
 use Rattle.rules.specs.Outcome.{gives, refused, parsed}
 use Rattle.rules.specs.Commands.{value_of, parse_of, parse}
+use Rattle.rules.specs.Meaning.{number_of}
+use Rattle.rules.specs.declared.Kind.{Kind}
+use Rattle.rules.specs.declared.Kind.TheVariants.{Data, Nonce, List, Ciphertext, SecretKey, PublicKey}
 use Rattle.rules.proofs.Needs.{need_goes}
 use Rattle.commands.proofs.Ways.{need_fails}
 
 -- ---- entry e, whose type is y
 module _ (t : Table) (e y : ℕ) (type : y ≡ type_at t e) where
-  pub value_list : y ≡ 3 → value_of t e ≡ count_at t e
-  unfolding value_of
-  value_list p = rw (sym type ∙ p) refl
+  -- the number of kind k
+  module _ (k : Kind) (named : number_of k ≡ y) where
+    pub value_list : k ≡ List → value_of t e ≡ count_at t e
+    unfolding value_of
+    value_list p = rw (sym type ∙ sym named ∙ ap number_of p) refl
 
-  pub value_ciphertext : (k : ℕ) → y ≡ 4 → k ≡ argument t e 1 → value_of t e ≡ handle t 0 k
-  unfolding value_of
-  value_ciphertext k p q = rw (sym type ∙ p, q) refl
+    pub value_ciphertext : (a : ℕ) → k ≡ Ciphertext → a ≡ argument t e 1 → value_of t e ≡ handle t 0 a
+    unfolding value_of
+    value_ciphertext a p q = rw (sym type ∙ sym named ∙ ap number_of p, q) refl
 
-  pub value_datum : y ≡ 1 → value_of t e ≡ argument t e 1
-  unfolding value_of
-  value_datum p = rw (sym type ∙ p) refl
+    pub value_nonce : k ≡ Nonce → value_of t e ≡ 0
+    unfolding value_of
+    value_nonce p = rw (sym type ∙ sym named ∙ ap number_of p) refl
 
-  pub value_key : 5 ≤ y → y ≤ 6 → value_of t e ≡ argument t e 1
-  unfolding value_of
-  value_key p q = go (ℕ_discrete y 5)
-    where
-      go : Dec (y ≡ 5) → value_of t e ≡ argument t e 1
-      go (yes r) = rw (sym type ∙ r) refl
-      go (no r) = let s : y ≡ 6 = omega arith in rw (sym type ∙ s) refl
+    pub value_first : (k ≡ Data) ⊎ ((k ≡ SecretKey) ⊎ (k ≡ PublicKey)) → value_of t e ≡ argument t e 1
+    unfolding value_of
+    value_first (inl p) = rw (sym type ∙ sym named ∙ ap number_of p) refl
+    value_first (inr (inl p)) = rw (sym type ∙ sym named ∙ ap number_of p) refl
+    value_first (inr (inr p)) = rw (sym type ∙ sym named ∙ ap number_of p) refl
 
-  pub value_other : (y ≡ 3 → ⊥) → (y ≡ 4 → ⊥) → (y ≡ 1 → ⊥) → (y ≡ 5 → ⊥) → (y ≡ 6 → ⊥) → value_of t e ≡ 0
+  -- the number of none
+  pub value_none : ((k : Kind) → number_of k ≡ y → ⊥) → value_of t e ≡ 0
   unfolding value_of
-  value_other a b c d f =
+  value_none h =
       rw (
-        ne_eqb (type_at t e) 3 (λ q. a (type ∙ q)),
-        ne_eqb (type_at t e) 4 (λ q. b (type ∙ q)),
-        ne_eqb (type_at t e) 1 (λ q. c (type ∙ q)),
-        ne_eqb (type_at t e) 5 (λ q. d (type ∙ q)),
-        ne_eqb (type_at t e) 6 (λ q. f (type ∙ q)),
+        ne_eqb (type_at t e) 3 (λ q. h List (sym q ∙ sym type)),
+        ne_eqb (type_at t e) 4 (λ q. h Ciphertext (sym q ∙ sym type)),
+        ne_eqb (type_at t e) 1 (λ q. h Data (sym q ∙ sym type)),
+        ne_eqb (type_at t e) 5 (λ q. h SecretKey (sym q ∙ sym type)),
+        ne_eqb (type_at t e) 6 (λ q. h PublicKey (sym q ∙ sym type)),
       ) refl
 
 -- ---- of handle h

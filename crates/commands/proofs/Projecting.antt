@@ -1,9 +1,12 @@
 -- The ways that a projection goes (rule C4). Assumes nothing.
+use Rattle.std.proofs.Common.{is_le, Less, Equal, Greater, cond}
 use Prim.Native.Nat.{ℕ, ◌≤◌, ◌<◌}
-use mathlib.Core.Path.{◌≡◌, sym, ap, ◌∙◌}
+use native.Mathlib.Omega.{arith}
+use native.Mathlib.Decide.{dec_lt, ℕ_discrete}
+use mathlib.Core.Path.{◌≡◌, refl, sym, ap, ◌∙◌}
 use mathlib.Core.Bool.{true, false}
-use lib.Dec.{leb}
-use borrow.Author.Tests.{le-leb, lt-leb, eq-eqb, ne_eqb, leb-true}
+use lib.Dec.{eqb, ltb, leb}
+use borrow.Author.Tests.{lt-ltb, le-ltb, le-leb, lt-leb, eq-eqb, ne_eqb, leb-true}
 use Rattle.rules.specs.Table.{Table, type_at, count_at, argument}
 use Rattle.rules.specs.Handles.{entry_of, holds_handle}
 use Rattle.rules.specs.Outcome.{gives, refused, gives_handle}
@@ -47,3 +50,12 @@ module _ (t : Table) (h i : ℕ) where
 pub place_small : (i : ℕ) → is_place i ≡ true → i ≤ 4
 unfolding is_place
 place_small i p = leb-true i 4 (and_right (leb 1 i) _ p)
+
+-- ---- a range's test of one end
+pub at_most : (a b : ℕ) → is_le (cond (ltb a b) Less (cond (eqb a b) Equal Greater)) ≡ leb a b
+at_most a b = go (dec_lt a b) (ℕ_discrete a b)
+  where
+    go : Dec (a < b) → Dec (a ≡ b) → is_le (cond (ltb a b) Less (cond (eqb a b) Equal Greater)) ≡ leb a b
+    go (yes l) q = rw (lt-ltb a b l, le-leb a b (omega arith)) refl
+    go (no g) (yes q) = rw (le-ltb a b (omega arith), eq-eqb a b q, le-leb a b (omega arith)) refl
+    go (no g) (no q) = rw (le-ltb a b (omega arith), ne_eqb a b q, lt-leb a b (omega arith)) refl

@@ -1,16 +1,18 @@
 -- The ways that encrypting and decrypting go (rules C5 and C6). Assumes nothing.
+use Rattle.std.specs.Prelude.{Option, Some, None, MatchOption}
 use Prim.Native.Nat.{ℕ, ◌+◌}
 use mathlib.Core.Path.{◌≡◌, refl, sym, ap, ap₂, ◌∙◌}
-use mathlib.Core.Bool.{Bool, true, false, not}
+use mathlib.Core.Bool.{true, false}
 use mathlib.Core.List.{[], ◌∷◌}
-use borrow.Author.Tests.{eq-eqb, ne_eqb, not-true, not-false}
+use borrow.Author.Tests.{eq-eqb, ne_eqb}
 use Rattle.rules.specs.Choice.{◌and◌}
 use Rattle.rules.specs.Table.{Table, type_at, argument, length_at}
 use Rattle.rules.specs.Terms.{ciphertext, type_of, arguments_of, numbers_of, ciphertext_length, length_of, new_entry, add_entry}
 use Rattle.rules.specs.Handles.{entry_of, holds_handle}
 use Rattle.rules.specs.Outcome.{Outcome, gives, refused, need, need_room, gives_handle}
 use Rattle.rules.specs.Commands.{encrypt_of, decrypt_of}
-use Rattle.rules.proofs.Logic.{both, found_false, found_true}
+use Rattle.rules.specs.declared.Entry.{Entry}
+use Rattle.rules.proofs.Logic.{both}
 use Rattle.rules.proofs.Needs.{need_goes}
 use Rattle.rows.specs.Row.{seven}
 use Rattle.commands.proofs.Ways.{need_fails, gives_new}
@@ -58,13 +60,18 @@ module _ (t : Table) (k c y : ℕ) (key : y ≡ type_at t k) where
           ∙ need_goes 8 t _ (eq-eqb (argument t c 1) (k + 1) (sym under ∙ p))
           ∙ ap (gives_handle t) (sym q)
 
--- ---- what is done with the entries of handles a and b, where r is whether both are held
-module _ (t : Table) (a b : ℕ) (of : ℕ → ℕ → Outcome) (r : Bool) (known : r ≡ holds_handle t 0 a and holds_handle t 0 b) where
-  pub two_unheld : not r ≡ true → need (holds_handle t 0 a and holds_handle t 0 b) 5 t (of (entry_of t 0 a) (entry_of t 0 b)) ≡ gives (refused 5) t
-  two_unheld p = need_fails 5 t _ (found_false known (not-true r p))
+-- ---- what is done with the entries of handles a and b, where r is what looking both up gives
+abbrev pub BothHeld : Table → ℕ → ℕ → Option (Entry × Entry) → Type 0
+BothHeld t a b r =
+    let held = holds_handle t 0 a and holds_handle t 0 b in
+    MatchOption r (held ≡ false) (λ es. (held ≡ true) × (entry_of t 0 a ≡ es.0.0) × (entry_of t 0 b ≡ es.1.0))
 
-  pub two_held : (k l : ℕ) → not r ≡ false → (r ≡ true → (entry_of t 0 a ≡ k) × (entry_of t 0 b ≡ l))
-      → need (holds_handle t 0 a and holds_handle t 0 b) 5 t (of (entry_of t 0 a) (entry_of t 0 b)) ≡ of k l
-  two_held k l p q =
-      let e = q (not-false r p) in
-      need_goes 5 t _ (found_true known (not-false r p)) ∙ ap₂ of e.0 e.1
+module _ (t : Table) (a b : ℕ) (of : ℕ → ℕ → Outcome) (r : Option (Entry × Entry)) (known : BothHeld t a b r) where
+  pub two_unheld : r ≡ None → need (holds_handle t 0 a and holds_handle t 0 b) 5 t (of (entry_of t 0 a) (entry_of t 0 b)) ≡ gives (refused 5) t
+  two_unheld p = need_fails 5 t _ (rw p at known)
+
+  pub two_held : (k l : Entry) → r ≡ Some (k, l)
+      → need (holds_handle t 0 a and holds_handle t 0 b) 5 t (of (entry_of t 0 a) (entry_of t 0 b)) ≡ of k.0 l.0
+  two_held k l p =
+      let e : (holds_handle t 0 a and holds_handle t 0 b ≡ true) × (entry_of t 0 a ≡ k.0) × (entry_of t 0 b ≡ l.0) = rw p at known in
+      need_goes 5 t _ e.0 ∙ ap₂ of e.1 e.2

@@ -6,13 +6,14 @@ ghost use Rattle.rules.specs.Table.{most, raised, next_handle, set_next_handle, 
 ghost use Rattle.rules.specs.Handles.{holds, grant, entry_of};
 ghost use Rattle.rules.specs.Meaning.{found_at, or_nothing};
 
-use rules::{Entry, Found, Handle};
+use rows::Sought;
+use rules::{Entry, Handle};
 
 // The next number, as far as a word holds it.
 pub fn raised(n: u16) -> u16
     ensures { result ≡ raised n }
 {
-    if n < 65535 { n + 1 } else { n }
+    n.saturating_add(1)
 }
 
 // Knower k's handle on entry e, 0 for none.
@@ -39,9 +40,7 @@ pub fn next_handle(t: &[u16], k: u16) -> Handle
 pub fn holds(t: &[u16], k: u16, e: Entry) -> bool
     ensures { result ≡ holds t.now k e.0 }
 {
-    let h = handle(t, k, e);
-    let n = h.0;
-    n != 0
+    handle(t, k, e) != Handle(0)
 }
 
 fn set_handle(t: &mut [u16], k: u16, e: Entry, h: Handle)
@@ -75,15 +74,21 @@ pub fn grant(t: &mut [u16], k: u16, e: Entry)
 }
 
 // The entry that handle h names to knower k: the lowest where the handle stands twice. Handle 0 names nothing.
-pub fn entry_of(t: &[u16], k: u16, h: Handle) -> Found
+pub fn entry_of(t: &[u16], k: u16, h: Handle) -> Option<Entry>
     ensures { found_at result ≡ or_nothing (entry_of t.now k h.0) }
 {
-    if h.0 == 0 {
-        return Found::Nothing;
+    if h == Handle(0) {
+        return None;
     }
     if rows::most(t) < k {
-        return Found::Nothing;
+        return None;
     }
     let place = 7 + k;
-    rows::next_with(t, Entry(0), place, h.0, place, h.0)
+    let sought = Sought {
+        k: place,
+        v: h.0,
+        j: place,
+        w: h.0,
+    };
+    rows::next_with(t, Entry(0), sought)
 }

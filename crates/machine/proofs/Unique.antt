@@ -8,7 +8,7 @@ use Rattle.rules.proofs.Meaning.{unsaid, said_back, told}
 use Rattle.machine.specs.contracts as own
 
 pub is_set_up : Tight own.is_set_up.ended (λ M 𝓤. own.is_set_up.clauses)
-is_set_up = law _ _ [] (λ κs a z z' l l' p q. (same (p []) (q []), refl))
+is_set_up = law _ _ [] (λ κs a z z' l l' p q. (same p q, refl))
 
 pub act : Tight own.act.ended (λ M 𝓤. own.act.clauses)
 act = law _ _ (_ ∷ []) (λ κs a z z' l l' p q. told z z' l.0 l'.0 l.1 p q)

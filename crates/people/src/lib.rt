@@ -4,43 +4,24 @@
 ghost use Rattle.std.specs.Prelude.{◌≡◌};
 ghost use Rattle.rules.specs.Table.{in_mask, is_participant, honest};
 
-// Bit p - 1 of a mask. What is left of the mask is halved until it is bit 0.
+// Bit p - 1 of a mask, which has none past a word's last.
 pub fn in_mask(mask: u16, p: u16) -> bool
     ensures { result ≡ in_mask mask p }
 {
-    if p == 0 {
-        return false;
-    }
-    let mut rest = mask;
-    let mut i: u16 = 1;
-    while i < p {
-        if rest == 0 {
-            return false;
-        }
-        rest = rest / 2;
-        i += 1;
-    }
-    rest % 2 == 1
+    p != 0 && mask.checked_shr(u32::from(p - 1)).unwrap_or(0) % 2 == 1
 }
 
 // p is a participant of the table, and one that its form has room for.
+#[tactic(auto, unfolding(rules::specs::Table::is_participant))]
 pub fn is_participant(t: &[u16], p: u16) -> bool
     ensures { result ≡ is_participant t.now p }
 {
-    if p < 1 {
-        return false;
-    }
-    if rows::participants(t) < p {
-        return false;
-    }
-    p <= rows::most(t)
+    1 <= p && p <= rows::participants(t) && p <= rows::most(t)
 }
 
+#[tactic(auto, unfolding(rules::specs::Table::honest))]
 pub fn honest(t: &[u16], p: u16) -> bool
     ensures { result ≡ honest t.now p }
 {
-    if !is_participant(t, p) {
-        return false;
-    }
-    in_mask(rows::mask(t), p)
+    is_participant(t, p) && in_mask(rows::mask(t), p)
 }

@@ -3,7 +3,7 @@
 use Rattle.std.specs.Prelude.{if◌then◌else◌}
 use Prim.Native.Nat.{ℕ}
 use mathlib.Core.Path.{◌≡◌, refl, sym, ◌∙◌}
-use mathlib.Core.Bool.{Bool, true, false, not}
+use mathlib.Core.Bool.{Bool, true, false, not, beq}
 use mathlib.Core.List.{List}
 use lib.Dec.{eqb}
 use lib.ListN.{get_or}
@@ -58,13 +58,15 @@ module _ (t : Table) where
   stays_known (Asks r) = step_known r
 
 -- ---- where a record stands
-module _ (place : ℕ) where
-  pub stands_set_up : (r : Record) → true ≡ is_set_up r → eqb place 1 ≡ stands_right r place
-  unfolding is_set_up stands_right
-  stands_set_up (SetUp n m c) p = refl
-  stands_set_up (Asks r) p = cc
+same_as_true : (b : Bool) → beq true b ≡ b
+same_as_true true = refl
+same_as_true false = refl
 
-  pub stands_request : (r : Record) → false ≡ is_set_up r → not (eqb place 1) ≡ stands_right r place
-  unfolding is_set_up stands_right
-  stands_request (SetUp n m c) p = cc
-  stands_request (Asks r) p = refl
+same_as_false : (b : Bool) → beq false b ≡ not b
+same_as_false true = refl
+same_as_false false = refl
+
+pub stands : (place : ℕ) (r : Record) → beq (is_set_up r) (eqb place 1) ≡ stands_right r place
+unfolding is_set_up stands_right
+stands place (SetUp n m c) = same_as_true (eqb place 1)
+stands place (Asks r) = same_as_false (eqb place 1)

@@ -11,7 +11,6 @@ use Rattle.rules.specs.Machine.{perform}
 use Rattle.rules.specs.Session.{found, stands_right, read_record, items_by, items_from, items_of}
 use Rattle.rules.specs.Player.{line_of, lines_from, answers_to}
 use Rattle.rules.specs.Meaning.{asked}
-use Rattle.rules.specs.declared.Handle.{Handle}
 use Rattle.rules.specs.declared.Command.{Command}
 use Rattle.rules.proofs.RoundTrip.{reads_end, reads_on}
 use Rattle.session.specs.Session.{read_as}
@@ -55,7 +54,7 @@ module _ {file all : List ℕ} {at place : ℕ} {t : Table} {done : List ℕ} wh
       go zero e q = absurd (omega arith)
       go (suc g) e q = (g, e, q)
 
-  module _ (h : at < length file) (l : Left file all at place t done) (s : Step) (hs : List Handle) (e : read_as s hs ≡ read_record file at) where
+  module _ (h : at < length file) (l : Left file all at place t done) (s : Step) (e : read_as s ≡ read_record file at) where
     pub at_end : s ≡ End → done ≡ all
     unfolding read_as items_by answers_to lines_from
     at_end p = let o = opened h l in sym (append-nil done) ∙ rw (← e, p) at o.2
@@ -65,19 +64,19 @@ module _ {file all : List ℕ} {at place : ℕ} {t : Table} {done : List ℕ} wh
     at_malformed p = let o = opened h l in rw last_line at (rw (← e, p) at o.2)
 
     module _ {c : Command} {next : ℕ} (p : s ≡ Recordˢ c next) where
-      is_found : read_record file at ≡ found (asked c hs) next
+      is_found : read_record file at ≡ found (asked c) next
       unfolding read_as
       is_found = sym e ∙ rw p refl
 
       pub onwards : (at + 3 ≤ next) × (next ≤ length file)
-      onwards = reads_on file at (asked c hs) next is_found
+      onwards = reads_on file at (asked c) next is_found
 
-      pub misplaced : false ≡ stands_right (asked c hs) place → done ++ line_of place (refused 11) ≡ all
+      pub misplaced : false ≡ stands_right (asked c) place → done ++ line_of place (refused 11) ≡ all
       unfolding items_by answers_to
       misplaced b = let o = opened h l in rw last_line at (rw (is_found, ← b) at o.2)
 
-      pub next_record : true ≡ stands_right (asked c hs) place
-          → Left file all next (place + 1) (perform (asked c hs) t).table (done ++ line_of place (perform (asked c hs) t).answer)
+      pub next_record : true ≡ stands_right (asked c) place
+          → Left file all next (place + 1) (perform (asked c) t).table (done ++ line_of place (perform (asked c) t).answer)
       unfolding items_by answers_to lines_from
       next_record b =
           let o = opened h l in
@@ -85,6 +84,6 @@ module _ {file all : List ℕ} {at place : ℕ} {t : Table} {done : List ℕ} wh
             steps = o.0;
             enough = omega (arith, onwards, o.1);
             same =
-                append_assoc done (line_of place (perform (asked c hs) t).answer) (lines_from (place + 1) (answers_to (items_from o.0 file (place + 1) next) (perform (asked c hs) t).table))
+                append_assoc done (line_of place (perform (asked c) t).answer) (lines_from (place + 1) (answers_to (items_from o.0 file (place + 1) next) (perform (asked c) t).table))
                 ∙ rw (is_found, ← b) at o.2;
           }

@@ -1,25 +1,15 @@
 -- Room for one new entry, and what is given: each way that the rules go, in the facts that the code has there. Assumes nothing.
 use Prim.Native.Nat.{ℕ, ◌-◌, ◌≤◌, ◌<◌}
-use native.Mathlib.Omega.{arith}
-use native.Mathlib.Decide.{ℕ_discrete}
 use mathlib.Core.Path.{◌≡◌, refl, sym, ap₂, ◌∙◌}
 use mathlib.Core.Bool.{true, false}
 use mathlib.Core.List.{List, [], ◌∷◌}
-use lib.Dec.{eqb, leb}
-use borrow.Author.Tests.{le-leb, lt-leb, eq-eqb, ne_eqb}
+use lib.Dec.{leb}
+use borrow.Author.Tests.{le-leb, lt-leb}
 use Rattle.rules.specs.Choice.{every}
 use Rattle.rules.specs.Table.{Table, used, capacity, handle}
 use Rattle.rules.specs.Terms.{longest, new_entry, add_entry}
 use Rattle.rules.specs.Handles.{grant}
 use Rattle.rules.specs.Outcome.{Outcome, gives, refused, handed, need, is_short, need_room, gives_handle}
-
--- where more is used than there is, only nothing has room
-pub none_left : (c u n : ℕ) → c < u → eqb n 0 ≡ leb n (c - u)
-none_left c u n h = go (ℕ_discrete n 0)
-  where
-    go : Dec (n ≡ 0) → eqb n 0 ≡ leb n (c - u)
-    go (yes q) = eq-eqb n 0 q ∙ sym (le-leb n (c - u) (omega arith))
-    go (no q) = ne_eqb n 0 q ∙ sym (lt-leb n (c - u) (omega arith))
 
 -- ---- a new entry of length l
 module _ (t : Table) (l : ℕ) (rest : Outcome) where

@@ -3,14 +3,13 @@ use Prim.Native.Nat.{ℕ, zero, suc, ◌+◌, ◌*◌, ◌-◌, ◌≤◌, ◌<�
 use native.Mathlib.Nat.{zero-sub, sub-zero, suc-sub-suc}
 use native.Mathlib.Omega.{arith}
 use mathlib.Core.Path.{◌≡◌, ap, ◌∙◌}
-use mathlib.Core.List.{List, [], ◌∷◌, ◌++◌}
-use lib.ListN.{length, take, drop, get_or, replicate, length-replicate}
-use lib.Seq.{sets, sets-eq}
+use mathlib.Core.List.{List, ◌++◌}
+use lib.ListN.{length, take, drop, replicate}
 use borrow.Rule.Slice.PartMut.{mid_of, put_mid, Post-is, mid_len}
 use borrow.Author.Tests.{le-leb, lt-leb}
 use Rattle.rules.specs.Table.{Table, size, most, row_width, with_row}
 use Rattle.rules.proofs.Words.{row_past, row_low}
-use Rattle.rows.specs.Row.{seven, filled}
+use Rattle.rows.specs.Row.{filled}
 
 -- a row of the table's width starts at no large number
 pub place_low : (t : Table) (w e : ℕ) → w ≡ row_width t → e < 65536 → w * e ≤ 20 * 65536
@@ -26,14 +25,11 @@ pub filled_short : (ns row : List ℕ) → length row < 7 → filled ns row ≡ 
 unfolding filled
 filled_short ns row h = rw (lt-leb 7 (length row) h)
 
--- seven stores to a row of zeros
-pub filled_long : (kind count : ℕ) (args : List ℕ) (len : ℕ) (row last : List ℕ) → 7 ≤ length row → last ≡ replicate (length row) 0
-    → sets last 0 (kind ∷ count ∷ get_or args 0 0 ∷ get_or args 1 0 ∷ get_or args 2 0 ∷ get_or args 3 0 ∷ len ∷ []) ≡ filled (seven kind count args len) row
-unfolding filled seven
-filled_long kind count args len row last h q =
-    let ns : List ℕ = kind ∷ count ∷ get_or args 0 0 ∷ get_or args 1 0 ∷ get_or args 2 0 ∷ get_or args 3 0 ∷ len ∷ [] in
-    let l : 7 ≤ length {A = ℕ} (replicate (length row) 0) = rw (length-replicate {A = ℕ} (length row) 0) h in
-    rw (q, le-leb 7 (length row) h) (sets-eq ns (replicate (length row) 0) 0 l ∙ ap (λ (x : List ℕ). ns ++ x) (drop_replicate 7 (length row) 0))
+-- seven numbers over a row of zeros
+pub filled_long : (ns row zeros first : List ℕ) → length ns ≡ 7 → 7 ≤ length row → zeros ≡ replicate (length row) 0 → first ≡ ns
+    → first ++ drop 7 zeros ≡ filled ns row
+unfolding filled
+filled_long ns row zeros first n h q r = rw (r, q, le-leb 7 (length row) h) (ap (λ (x : List ℕ). ns ++ x) (drop_replicate 7 (length row) 0))
 
 -- ---- the row in its table
 module _ (t : Table) (e w : ℕ) (isWidth : w ≡ row_width t) where

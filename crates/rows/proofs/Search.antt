@@ -1,6 +1,6 @@
 -- The search of the used entries by two words: where it may stop, and what its answer says of any test that only such entries pass.
 -- Assumes nothing.
-use Rattle.std.specs.Prelude.{if◌then◌else◌}
+use Rattle.std.specs.Prelude.{Option, Some, None, if◌then◌else◌}
 use Prim.Native.Nat.{ℕ, ◌+◌, ◌*◌, ◌/◌, ◌≤◌, ◌<◌}
 use native.Mathlib.Nat.{mul-suc, mul-le-mul_left, mul-div_cancel_left}
 use native.Mathlib.Numerals.{add-one}
@@ -17,8 +17,6 @@ use Rattle.rules.specs.Choice.{◌and◌, lowest}
 use Rattle.rules.specs.Table.{Table, row_width, word, used}
 use Rattle.rules.specs.Meaning.{found_at, or_nothing}
 use Rattle.rules.specs.declared.Entry.{Entry}
-use Rattle.rules.specs.declared.Found.{Found}
-use Rattle.rules.specs.declared.Found.TheVariants.{At, Nothing}
 use Rattle.rules.proofs.Logic.{and_left, and_right, both, never, fails}
 use Rattle.rules.proofs.Walks.{Lowest, nowhere, somewhere, lowest_is, lowest_first, lowest_same}
 use Rattle.rules.proofs.Meaning.{scan_found, scan_nothing}
@@ -128,7 +126,7 @@ passes_more t k v m from at width h p e j w r =
     reached_more t e k v j w m at width (p e j w r) _ refl (rw (ne_eqb (get_or t (at + m + k) 0) v h) refl)
 
 -- ---- a search's answer, in the arm that it is matched in
-pub found : (n : ℕ) (f : Found) (e : Entry) → found_at f ≡ or_nothing n → f ≡ At e → (n ≡ 0 → ⊥) × (n ≡ e.0)
+pub found : (n : ℕ) (f : Option Entry) (e : Entry) → found_at f ≡ or_nothing n → f ≡ Some e → (n ≡ 0 → ⊥) × (n ≡ e.0)
 unfolding found_at or_nothing
 found n f e p q = go (ℕ_discrete n 0) (rw q at p)
   where
@@ -136,7 +134,7 @@ found n f e p q = go (ℕ_discrete n 0) (rw q at p)
     go (yes z) r = absurd (let w : ◌≡◌ {A = ℕ} 0 1 = let s : e.0 ∷ [] ≡ [] = rw (eq-eqb n 0 z) at r in cc in omega arith)
     go (no z) r = (z, let s : e.0 ∷ [] ≡ n ∷ [] = rw (ne_eqb n 0 z) at r in cc)
 
-pub nothing : (n : ℕ) (f : Found) → found_at f ≡ or_nothing n → f ≡ Nothing → n ≡ 0
+pub nothing : (n : ℕ) (f : Option Entry) → found_at f ≡ or_nothing n → f ≡ None → n ≡ 0
 unfolding found_at or_nothing
 nothing n f p q = go (ℕ_discrete n 0) (rw q at p)
   where
@@ -152,7 +150,7 @@ next_of_all t f k v j w h = lowest_same _ f (used t) (λ x a b. rw (lt-ltb 0 x a
 
 -- ---- a stricter test: whatever passes has both words; none up to e passes, and r is the next that has both
 module _ (t : Table) (f : ℕ → Bool) (k v j w : ℕ) (has : (x : ℕ) → f x ≡ true → has_both t k v j w x ≡ true)
-    (e : ℕ) (past : lowest f e ≡ 0) (r : Found) (next : found_at r ≡ or_nothing (next_with t e k v j w)) where
+    (e : ℕ) (past : lowest f e ≡ 0) (r : Option Entry) (next : found_at r ≡ or_nothing (next_with t e k v j w)) where
   abbrev above : ℕ → Bool
   above x = passes_above e (has_both t k v j w) x
 
@@ -168,14 +166,14 @@ module _ (t : Table) (f : ℕ → Bool) (k v j w : ℕ) (has : (x : ℕ) → f x
       go (yes l) = absurd (none_lowest f e past x a l p)
       go (no l) = both (lt-ltb e x (omega arith)) (has x p)
 
-  pub none_passes : r ≡ Nothing → [] ≡ or_nothing (lowest f (used t))
+  pub none_passes : r ≡ None → [] ≡ or_nothing (lowest f (used t))
   none_passes h = scan_nothing f (used t) (go (next_with t e k v j w) next_is (nothing _ r next h))
     where
       go : (n : ℕ) → Lowest above (used t) n → n ≡ 0 → lowest f (used t) ≡ 0
       go n (nowhere z m) q = lowest_none f (used t) (λ x a b p. never (passes_above_lem x a p) (m x a b))
       go n (somewhere a b p m) q = absurd (omega arith)
 
-  module _ (x : Entry) (is : r ≡ At x) where
+  module _ (x : Entry) (is : r ≡ Some x) where
     at_next : Lowest above (used t) x.0
     at_next = rw (found _ r x next is).1 at next_is
 

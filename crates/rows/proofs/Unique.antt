@@ -19,9 +19,6 @@ word = law _ _ [] (λ κs a z z' l l' p q. (same p q, refl))
 pub put : Tight own.put.ended (λ M 𝓤. own.put.clauses)
 put = law _ _ [] (λ κs a z z' l l' p q. (refl, ap (λ t. (t, l.1)) (same p q)))
 
-pub clear : Tight own.clear.ended (λ M 𝓤. own.clear.clauses)
-clear = law _ _ [] (λ κs a z z' l l' p q. (refl, ap (λ t. (t, l.1)) (same p q)))
-
 pub write_entry : Tight own.write_entry.ended (λ M 𝓤. own.write_entry.clauses)
 write_entry = law _ _ [] (λ κs a z z' l l' p q. (refl, ap (λ t. (t, l.1)) (same p q)))
 

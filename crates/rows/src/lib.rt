@@ -1,4 +1,5 @@
-// The lent run as rows of numbers: row 0 is the head, row e is entry e (rules T1 to T3). Reads past the end give 0, writes there do nothing.
+// The lent run as rows of numbers: row 0 is the head, row e is entry e (rules T1 to T3). Reads past the end give 0, writes
+// there do nothing. A word is widened by `as`, with which a proof computes.
 #![tactic(auto)]
 
 ghost use Rattle.std.specs.Prelude.{◌≡◌, ◌++◌, ◌+◌, ◌*◌, ◌<◌, ◌≤◌, eqb, length, get_or, replicate};
@@ -8,7 +9,7 @@ ghost use Rattle.rules.specs.Meaning.{found_at, or_nothing};
 ghost use Rattle.rows.specs.Row.{seven, filled};
 ghost use Rattle.rows.specs.Search.{has_both, next_with, Passes};
 
-use rules::{Entry, Found};
+use rules::Entry;
 
 // The highest participant that the table's form has room for.
 pub fn most(t: &[u16]) -> u16
@@ -31,7 +32,7 @@ pub fn word(t: &[u16], e: Entry, k: u16) -> u16
     let width = row_width(t);
     let row = e.0 as usize;
     let at = width * row + k as usize;
-    if at < t.len() { t[at] } else { 0 }
+    t.get(at).copied().unwrap_or(0)
 }
 
 // Writes v to word k of row e.
@@ -41,53 +42,49 @@ pub fn put(t: &mut [u16], e: Entry, k: u16, v: u16)
     let width = row_width(t);
     let row = e.0 as usize;
     let at = width * row + k as usize;
+    // A test and a store: after a `get_mut` a proof knows none of the words.
     if at < t.len() {
         t[at] = v;
     }
 }
 
-// Makes every number of a run zero.
-pub fn clear(run: &mut [u16])
-    ensures { run.new ≡ replicate (length run.old) 0 }
-{
-    let mut i: usize = 0;
-    while i < run.len() {
-        run[i] = 0;
-        i += 1;
-    }
+// What an entry keeps of a term: its type, how many of its arguments count, these, and its length.
+#[derive(Clone, Copy, PartialEq, Eq)]
+pub struct Term {
+    pub kind: u16,
+    pub count: u16,
+    pub args: [u16; 4],
+    pub len: u16,
 }
 
 // Writes a term's seven numbers to a row that has room for them, and zeros after them.
-fn write_row(row: &mut [u16], kind: u16, count: u16, args: [u16; 4], len: u16)
-    ensures { row.new ≡ filled (seven kind count args len) row.old }
+fn write_row(row: &mut [u16], term: Term)
+    ensures { row.new ≡ filled (seven term.kind term.count term.args term.len) row.old }
 {
     if row.len() < 7 {
         return;
     }
-    clear(row);
-    row[0] = kind;
-    row[1] = count;
-    row[2] = args[0];
-    row[3] = args[1];
-    row[4] = args[2];
-    row[5] = args[3];
-    row[6] = len;
+    row.fill(0);
+    let [first, second, third, fourth] = term.args;
+    row[..7].copy_from_slice(&[
+        term.kind, term.count, first, second, third, fourth, term.len,
+    ]);
 }
 
 // Writes a term to entry e, held by nobody: the entry's numbers are lent on as a part of the run.
-pub fn write_entry(t: &mut [u16], e: Entry, kind: u16, count: u16, args: [u16; 4], len: u16)
-    ensures { t.new ≡ with_row t.old e.0 (seven kind count args len ++ replicate (1 + most t.old) 0) }
+pub fn write_entry(t: &mut [u16], e: Entry, term: Term)
+    ensures { t.new ≡ with_row t.old e.0 (seven term.kind term.count term.args term.len ++ replicate (1 + most t.old) 0) }
 {
     let width = row_width(t);
     let row = e.0 as usize;
     let from = width * row;
     let to = from + width;
     if to <= t.len() {
-        write_row(&mut t[from..to], kind, count, args, len);
+        write_row(&mut t[from..to], term);
     }
 }
 
-// The fields of the head (rule T2).
+// The fields of the head (rule T2). One function for each: its clause is the rule's definition of that name.
 pub fn participants(t: &[u16]) -> u16
     ensures { result ≡ participants t.now }
 {
@@ -112,7 +109,7 @@ pub fn used(t: &[u16]) -> u16
     word(t, Entry(0), 4)
 }
 
-// The fields of an entry (rule T3).
+// The fields of an entry (rule T3). One function for each, as for the head.
 pub fn kind(t: &[u16], e: Entry) -> u16
     ensures { result ≡ type_at t.now e.0 }
 {
@@ -150,51 +147,45 @@ pub fn length(t: &[u16], e: Entry) -> u16
     word(t, e, 6)
 }
 
-// The larger of two.
-fn larger(a: u16, b: u16) -> u16
-    ensures { (a ≤ result) × (b ≤ result) }
-{
-    if a < b { b } else { a }
+// What a search is for: an entry with v as its word k and w as its word j.
+#[derive(Clone, Copy, PartialEq, Eq)]
+pub struct Sought {
+    pub k: u16,
+    pub v: u16,
+    pub j: u16,
+    pub w: u16,
 }
 
-// The row that starts at this place, in the run, has v as its word k and w as its word j.
-fn has_both_at(t: &[u16], at: usize, k: u16, v: u16, j: u16, w: u16) -> bool
-    requires { (at + k < length t.now) × (at + j < length t.now) }
-    ensures { result ≡ eqb (get_or t.now (at + k) 0) v and eqb (get_or t.now (at + j) 0) w }
+// The row that starts at this place, in the run, is one that is sought. A search asks this at each turn, so the bounds aren't tested again.
+fn has_both_at(t: &[u16], at: usize, s: Sought) -> bool
+    requires { (at + s.k < length t.now) × (at + s.j < length t.now) }
+    ensures { result ≡ eqb (get_or t.now (at + s.k) 0) s.v and eqb (get_or t.now (at + s.j) 0) s.w }
 {
-    if t[at + k as usize] != v {
-        return false;
-    }
-    t[at + j as usize] == w
+    t[at + s.k as usize] == s.v && t[at + s.j as usize] == s.w
 }
 
-// Entry e has v as its word k and w as its word j.
-fn has_both(t: &[u16], e: Entry, k: u16, v: u16, j: u16, w: u16) -> bool
-    ensures { result ≡ has_both t.now k v j w e.0 }
+// Entry e is one that is sought.
+fn has_both(t: &[u16], e: Entry, s: Sought) -> bool
+    ensures { result ≡ has_both t.now s.k s.v s.j s.w e.0 }
 {
-    if word(t, e, k) != v {
-        return false;
-    }
-    word(t, e, j) == w
+    word(t, e, s.k) == s.v && word(t, e, s.j) == s.w
 }
 
 // The search in a run that ends before its last used entry: word by word, past the end they are 0.
-fn next_by_word(t: &[u16], e: Entry, k: u16, v: u16, j: u16, w: u16) -> Found
-    ensures { found_at result ≡ or_nothing (next_with t.now e.0 k v j w) }
+fn next_by_word(t: &[u16], e: Entry, s: Sought) -> Option<Entry>
+    ensures { found_at result ≡ or_nothing (next_with t.now e.0 s.k s.v s.j s.w) }
 {
-    let used = used(t);
-    let mut x = e.0;
-    while x < used {
-        x += 1;
-        if has_both(t, Entry(x), k, v, j, w) {
-            return Found::At(Entry(x));
+    for below in e.0..used(t) {
+        let x = Entry(below + 1);
+        if has_both(t, x, s) {
+            return Some(x);
         }
     }
-    Found::Nothing
+    None
 }
 
 // The search goes on from a row's place by four rows a turn, not past the place `last`. It stops before a row that has v as its word k, or
-// where fewer than four are left.
+// where fewer than four are left. By one row a turn it misses the bar of docs/SPEED.md, and so does an iterator.
 fn pass_fours(t: &[u16], from: usize, k: u16, v: u16, last: usize) -> usize
     requires { (from ≤ 20 * 65536 + length t.now) × (last + k < length t.now) }
     ensures further { from ≤ result }
@@ -224,24 +215,24 @@ fn pass_fours(t: &[u16], from: usize, k: u16, v: u16, last: usize) -> usize
     at
 }
 
-// The lowest used entry above e that has v as its word k and w as its word j. Entries are gone through by the places where their rows
-// start, quickly by the first of the two words.
-pub fn next_with(t: &[u16], e: Entry, k: u16, v: u16, j: u16, w: u16) -> Found
-    ensures { found_at result ≡ or_nothing (next_with t.now e.0 k v j w) }
+// The lowest used entry above e that is sought. Entries are gone through by the places where their rows start, quickly by the first of the
+// two words; the place is no count of turns, since `pass_fours` moves it too.
+pub fn next_with(t: &[u16], e: Entry, s: Sought) -> Option<Entry>
+    ensures { found_at result ≡ or_nothing (next_with t.now e.0 s.k s.v s.j s.w) }
 {
     let width = row_width(t);
     let last = width * used(t) as usize;
-    if t.len() <= last + larger(k, j) as usize {
-        return next_by_word(t, e, k, v, j, w);
+    if t.len() <= last + s.k.max(s.j) as usize {
+        return next_by_word(t, e, s);
     }
     let row = e.0;
-    let mut at = pass_fours(t, width * row as usize, k, v, last);
+    let mut at = pass_fours(t, width * row as usize, s.k, s.v, last);
     while at < last {
         at += width;
-        if has_both_at(t, at, k, v, j, w) {
-            return Found::At(Entry((at / width) as u16));
+        if has_both_at(t, at, s) {
+            return Some(Entry((at / width) as u16));
         }
-        at = pass_fours(t, at, k, v, last);
+        at = pass_fours(t, at, s.k, s.v, last);
     }
-    Found::Nothing
+    None
 }

@@ -1,6 +1,6 @@
 -- How many bytes the lines of a file of bytes have: a record has at least 3 bytes, and its line at most 31, since its numbers are such as a
 -- word holds. Assumes nothing.
-use Rattle.std.specs.Prelude.{if◌then◌else◌}
+use Rattle.std.specs.Prelude.{Err, if◌then◌else◌}
 use Prim.Native.Nat.{ℕ, zero, suc, ◌+◌, ◌-◌, ◌*◌, ◌≤◌, ◌<◌}
 use native.Mathlib.Omega.{arith}
 use native.Mathlib.Decide.{dec_lt}
@@ -17,7 +17,6 @@ use Rattle.rules.specs.Machine.{Record, perform}
 use Rattle.rules.specs.Session.{longest_file, file_fits, number, body_lengths, is_within, record_of, Reading, found, malformed, ended, body_number, read_body, read_record, Item, item, broken, stands_right, items_by, items_from, items_of}
 use Rattle.rules.specs.Player.{line_of, lines_from, players_table, answers_to, played, most_bytes}
 use Rattle.rules.specs.Meaning.{said}
-use Rattle.rules.specs.declared.Answer.TheVariants.{Refused}
 use Rattle.rules.proofs.Logic.{and_left, and_right}
 use Rattle.rules.proofs.Meaning.{unsaid}
 use Rattle.rules.proofs.Answers.{answer_said}
@@ -60,7 +59,7 @@ line_low {t} {r} place l a h =
 
 line_broken : (place : ℕ) → place < 65536 → length (line_of place (refused 11)) ≤ 31
 unfolding said
-line_broken place l = line_short place (Refused 11) l (low_member (more_low {x = 7} (omega arith) (more_low {x = 11} (omega arith) none_low)))
+line_broken place l = line_short place (Err (record { 0 = 11 })) l (low_member (more_low {x = 7} (omega arith) (more_low {x = 11} (omega arith) none_low)))
 
 fits_lengths : (file : List ℕ) → file_fits file ≡ true → (1 ≤ length file) × (length file ≤ 65536)
 unfolding file_fits longest_file

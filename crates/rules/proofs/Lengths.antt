@@ -1,5 +1,6 @@
 -- How long a line of the output can be: a number below 65536 has at most five digits, so a line with three values has at most 31 bytes.
 -- Assumes nothing.
+use Rattle.std.specs.Prelude.{Result, Ok, Err}
 use Prim.Native.Nat.{ℕ, zero, suc, ◌+◌, ◌*◌, ◌/◌, ◌≤◌, ◌<◌}
 use native.Mathlib.Omega.{arith}
 use native.Mathlib.Decide.{dec_lt}
@@ -8,8 +9,9 @@ use mathlib.Core.List.{List, [], ◌∷◌, ◌++◌, Memᴰ}
 use lib.ListN.{length, length-append}
 use Rattle.rules.specs.Player.{ascii, decimal, word_of, spaced, line_of}
 use Rattle.rules.specs.Meaning.{said}
-use Rattle.rules.specs.declared.Answer.{Answer}
-use Rattle.rules.specs.declared.Answer.TheVariants.{Ready, Sent, Accepted, Dropped, Handle, Parsed, Refused}
+use Rattle.rules.specs.declared.Refusal.{Refusal}
+use Rattle.rules.specs.declared.Reply.{Reply}
+use Rattle.rules.specs.declared.Reply.TheVariants.{Ready, Sent, Accepted, Dropped, Handle, Parsed}
 use Rattle.rules.proofs.Decimal.{decimal_small, decimal_more}
 
 -- ---- a number
@@ -49,12 +51,12 @@ line_within place n vs low h =
 
 -- the longest are those of three values and a word of six letters
 pub line_short :
-    (place : ℕ) (a : Answer) → place < 65536 → ((v : ℕ) → Memᴰ v (said a) → v < 65536) → length (line_of place (said a)) ≤ 31
+    (place : ℕ) (a : Result Reply Refusal) → place < 65536 → ((v : ℕ) → Memᴰ v (said a) → v < 65536) → length (line_of place (said a)) ≤ 31
 unfolding said word_of ascii
-line_short place (Ready u) low h = omega (arith, line_within place 1 (u ∷ []) low (λ x i. h x (Memᴰ.tail i)))
-line_short place (Sent p q e) low h = omega (arith, line_within place 2 (p ∷ q ∷ e.0 ∷ []) low (λ x i. h x (Memᴰ.tail i)))
-line_short place (Accepted p q) low h = omega (arith, line_within place 3 (p ∷ q ∷ []) low (λ x i. h x (Memᴰ.tail i)))
-line_short place Dropped low h = omega (arith, line_within place 4 [] low (λ x i. h x (Memᴰ.tail i)))
-line_short place (Handle e) low h = omega (arith, line_within place 5 (e.0 ∷ []) low (λ x i. h x (Memᴰ.tail i)))
-line_short place (Parsed y v l) low h = omega (arith, line_within place 6 (y ∷ v ∷ l ∷ []) low (λ x i. h x (Memᴰ.tail i)))
-line_short place (Refused n) low h = omega (arith, line_within place 7 (n ∷ []) low (λ x i. h x (Memᴰ.tail i)))
+line_short place (Ok (Ready u)) low h = omega (arith, line_within place 1 (u ∷ []) low (λ x i. h x (Memᴰ.tail i)))
+line_short place (Ok (Sent p q e)) low h = omega (arith, line_within place 2 (p ∷ q ∷ e.0 ∷ []) low (λ x i. h x (Memᴰ.tail i)))
+line_short place (Ok (Accepted p q)) low h = omega (arith, line_within place 3 (p ∷ q ∷ []) low (λ x i. h x (Memᴰ.tail i)))
+line_short place (Ok Dropped) low h = omega (arith, line_within place 4 [] low (λ x i. h x (Memᴰ.tail i)))
+line_short place (Ok (Handle e)) low h = omega (arith, line_within place 5 (e.0 ∷ []) low (λ x i. h x (Memᴰ.tail i)))
+line_short place (Ok (Parsed y v l)) low h = omega (arith, line_within place 6 (y ∷ v ∷ l ∷ []) low (λ x i. h x (Memᴰ.tail i)))
+line_short place (Err r) low h = omega (arith, line_within place 7 (r.0 ∷ []) low (λ x i. h x (Memᴰ.tail i)))

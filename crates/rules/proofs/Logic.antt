@@ -3,7 +3,7 @@ use Prim.Native.Nat.{ℕ, zero, suc, ◌+◌, ◌<◌}
 use native.Mathlib.Omega.{arith}
 use mathlib.Core.Path.{◌≡◌, refl, sym, ap, ◌∙◌, ap₂, subst}
 use mathlib.Core.Logic.{◌⊎◌, inl, inr}
-use mathlib.Core.Bool.{Bool, true, false, not}
+use mathlib.Core.Bool.{Bool, true, false}
 use mathlib.Core.List.Memᴰ
 use mathlib.Core.List.{List, [], ◌∷◌, ◌++◌, Memᴰ}
 use lib.Dec.{T, eqb}
@@ -33,10 +33,6 @@ and_swap false false = refl
 pub and_same : (a : Bool) → a ≡ a and a
 and_same true = refl
 and_same false = refl
-
-pub and_true : (b : Bool) → b and true ≡ b
-and_true true = refl
-and_true false = refl
 
 pub or_right : (a b : Bool) → b ≡ true → a or b ≡ true
 or_right true b e = refl
@@ -167,8 +163,3 @@ and_stops b p q = rw (found_false p q) refl
 
 pub and_goes : {r a b x : Bool} → r ≡ a → r ≡ true → x ≡ b → x ≡ a and b
 and_goes p q h = rw (found_true p q) h
-
--- where the first is false, the two agree just where the second is false too
-pub agree_false : (b : Bool) → not b ≡ agree false b
-agree_false true = refl
-agree_false false = refl

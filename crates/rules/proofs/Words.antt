@@ -7,7 +7,7 @@ use native.Mathlib.Decide.{dec_lt, ℕ_discrete}
 use mathlib.Core.Path.{◌≡◌, refl, sym, ap, ◌∙◌}
 use mathlib.Core.Logic.{◌≢◌}
 use mathlib.Core.List.{List, ◌++◌}
-use lib.ListN.{length, take, drop, get_or, set, length-set, length-append, length-drop, get_or-eq_default, get_or-append}
+use lib.ListN.{length, take, drop, get_or, set, length-set, length-append, length-drop, get_or-append}
 use lib.Seq.{set_out, get_or-set_same, get_or-set_other, length-take-le, get_or-append-add, get_or-take, get_or-drop}
 use borrow.Author.Tests.{le-leb, lt-leb}
 use Rattle.rules.specs.Table.{Table, size, most_of, most, row_width, word, put, with_row}
@@ -70,10 +70,6 @@ pub most_version : (t s : Table) → word t 0 0 ≡ word s 0 0 → most t ≡ mo
 most_version t s q = most_same t s (sym (word_head t 0) ∙ q ∙ word_head s 0)
 
 -- ---- past the end of the run
-pub word_past : (t : Table) (e k : ℕ) → size t ≤ row_width t * e + k → word t e k ≡ 0
-unfolding word
-word_past t e k h = get_or-eq_default t 0 h
-
 pub put_past : (t : Table) (e k v : ℕ) → size t ≤ row_width t * e + k → put t e k v ≡ t
 unfolding put
 put_past t e k v h = set_out t (row_width t * e + k) v h

@@ -3,62 +3,27 @@ use Prim.Native.Nat.{ℕ, zero, suc, ◌+◌, ◌*◌, ◌/◌, ◌≤◌, ◌<�
 use native.Mathlib.Omega.{arith}
 use native.Mathlib.Numerals.{add-one}
 use native.Mathlib.Nat.{zero-add}
-use native.Mathlib.Decide.{ℕ_discrete}
 use mathlib.Core.Path.{◌≡◌, refl, sym, ap, ◌∙◌}
 use mathlib.Core.Bool.{true, false}
 use mathlib.Core.List.{List, [], ◌∷◌, ◌++◌}
-use lib.Dec.{eqb}
-use lib.ListN.{length, get_or, take, set, get_or-eq_default}
+use lib.ListN.{length, get_or, take, set}
 use lib.Seq.{sets, sets-eq, take-suc, length-take-le}
-use borrow.Author.Tests.{le-leb, lt-leb, ne_eqb}
+use borrow.Author.Tests.{le-leb, lt-leb}
 use Rattle.rules.specs.Machine.{Record, SetUp, Asks, Start, Deliver, Store, Nonce, MakeList, Project, Encrypt, Decrypt, Parse}
-use Rattle.rules.specs.Session.{Reading, found, malformed, ended, number, body_lengths, is_within, record_of, body_number, read_body, kind_of, values_of, two_bytes, bytes_of, body_length, record_bytes, has_record, write_record, refusal, bytes}
+use Rattle.rules.specs.Session.{Reading, found, malformed, ended, body_lengths, is_within, record_of, body_number, read_body, kind_of, values_of, two_bytes, bytes_of, body_length, record_bytes, has_record, write_record, refusal, bytes}
 use Rattle.rules.specs.Meaning.{beside_at, asked}
 use Rattle.rules.proofs.Stores.{sets_append}
 use Rattle.rules.proofs.RoundTrip.{body_found}
-use Rattle.rules.specs.declared.Handle.{Handle}
 use Rattle.rules.specs.declared.Command.{Command}
 use Rattle.rules.specs.declared.Command.TheVariants.{SetUp as SetUpᶜ, Start as Startᶜ, Deliver as Deliverᶜ, Store as Storeᶜ, Nonce as Nonceᶜ, List as Listᶜ, Project as Projectᶜ, Encrypt as Encryptᶜ, Decrypt as Decryptᶜ, Parse as Parseᶜ}
 use Rattle.beside.specs.Beside.{numbers_beside}
 use Rattle.beside.proofs.Asked.{asked_fits}
-use Rattle.session.specs.Session.{handle_of, four_handles, beside_record, beside, command_of, handles_of, count_of}
+use Rattle.session.specs.Session.{four_handles, beside_record, beside, handles_beside, command_of, count_of}
 
--- one number more is ruled out
-pub up : (k n : ℕ) → n ≤ k → (k ≡ n → ⊥) → n + 1 ≤ k
-up k n h f = omega arith
-
--- ---- kinds
-pub kinds_six : (k : ℕ) → 6 ≤ k → k < 9 → 5 ∷ 5 ∷ [] ≡ body_lengths k
-unfolding body_lengths
-kinds_six k a b = go (ℕ_discrete k 6) (ℕ_discrete k 7)
-  where
-    go : Dec (k ≡ 6) → Dec (k ≡ 7) → 5 ∷ 5 ∷ [] ≡ body_lengths k
-    go (yes e) d = rw e
-    go (no f) (yes e) = rw e
-    go (no f) (no g) = let e : k ≡ 8 = omega arith in rw e
-
-pub kinds_unknown : (k : ℕ) → 10 ≤ k → [] ≡ body_lengths k
-unfolding body_lengths
-kinds_unknown k h = rw (get_or-eq_default _ _ h)
-
-pub kinds_last : (kind k a b c : ℕ) → 9 ≤ kind → Parseᶜ (handle_of a) ≡ command_of kind k a b c
-unfolding command_of
-kinds_last kind k a b c h = rw (get_or-eq_default _ _ h)
-
-pub number_past : (file : List ℕ) (at : ℕ) → length file ≤ at → 0 ≡ number file at
-unfolding number
-number_past file at h =
-    let h' : length file ≤ at + 1 = omega arith in
-    rw (get_or-eq_default file 0 h, get_or-eq_default file 0 h')
-
-handles_none : (kind a b c d : ℕ) → eqb kind 5 ≡ false → handles_of kind a b c d ≡ four_handles 0 0 0 0
-unfolding handles_of
-handles_none kind a b c d e = rw e refl
-
--- ---- the code's command and handles, and the rule's record
+-- ---- the code's command, and the rule's record
 module _ (k : ℕ) (x : ℕ → ℕ) where
-  asks_record : (kind : ℕ) → asked (command_of kind k (x 1) (x 2) (x 3)) (handles_of kind (x 1) (x 2) (x 3) (x 4)) ≡ record_of kind k x
-  unfolding asked beside_at command_of handles_of four_handles record_of
+  asks_record : (kind : ℕ) → asked (command_of kind k (x 1) (x 2) (x 3) (x 4)) ≡ record_of kind k x
+  unfolding asked beside_at command_of four_handles record_of
   asks_record zero = refl
   asks_record (suc zero) = refl
   asks_record (suc (suc zero)) = refl
@@ -70,8 +35,8 @@ module _ (k : ℕ) (x : ℕ → ℕ) where
   asks_record (suc (suc (suc (suc (suc (suc (suc (suc zero)))))))) = refl
   asks_record (suc (suc (suc (suc (suc (suc (suc (suc (suc n))))))))) = refl
 
-  beside_record_lem : (kind : ℕ) → handles_of kind (x 1) (x 2) (x 3) (x 4) ≡ beside_record (record_of kind k x)
-  unfolding beside_record handles_of record_of
+  beside_record_lem : (kind : ℕ) → handles_beside (command_of kind k (x 1) (x 2) (x 3) (x 4)) ≡ beside_record (record_of kind k x)
+  unfolding beside_record handles_beside command_of record_of
   beside_record_lem zero = refl
   beside_record_lem (suc zero) = refl
   beside_record_lem (suc (suc zero)) = refl
@@ -81,21 +46,18 @@ module _ (k : ℕ) (x : ℕ → ℕ) where
   beside_record_lem (suc (suc (suc (suc (suc (suc zero)))))) = refl
   beside_record_lem (suc (suc (suc (suc (suc (suc (suc zero))))))) = refl
   beside_record_lem (suc (suc (suc (suc (suc (suc (suc (suc zero)))))))) = refl
-  beside_record_lem (suc (suc (suc (suc (suc (suc (suc (suc (suc n))))))))) =
-      let kind = suc (suc (suc (suc (suc (suc (suc (suc (suc n)))))))) in
-      handles_none kind _ _ _ _ (ne_eqb kind 5 (λ q. omega arith))
+  beside_record_lem (suc (suc (suc (suc (suc (suc (suc (suc (suc n))))))))) = refl
 
 -- ---- a body
 module _ (file : List ℕ) (b l : ℕ) where
-  pub body_read : {kind x y z w : ℕ} {c : Command} {hs : List Handle} → b + l ≤ length file → is_within (body_lengths (get_or file b 0)) l ≡ true
+  pub body_read : {kind x y z w : ℕ} {c : Command} → b + l ≤ length file → is_within (body_lengths (get_or file b 0)) l ≡ true
       → kind ≡ get_or file b 0
       → x ≡ body_number file b (l / 2) 1 → y ≡ body_number file b (l / 2) 2 → z ≡ body_number file b (l / 2) 3 → w ≡ body_number file b (l / 2) 4
-      → c ≡ command_of kind (l / 2) x y z → hs ≡ handles_of kind x y z w
-      → (found (asked c hs) (b + l) ≡ read_body file b l) × (hs ≡ beside (read_body file b l))
+      → c ≡ command_of kind (l / 2) x y z w → (found (asked c) (b + l) ≡ read_body file b l) × (handles_beside c ≡ beside (read_body file b l))
   unfolding beside
-  body_read h m p q₁ q₂ q₃ q₄ r s =
+  body_read h m p q₁ q₂ q₃ q₄ r =
       let n = body_number file b (l / 2) in
-      rw (body_found file b l h m, r, s, p, q₁, q₂, q₃, q₄)
+      rw (body_found file b l h m, r, p, q₁, q₂, q₃, q₄)
       (ap (λ (a : Record). found a (b + l)) (asks_record (l / 2) n (get_or file b 0)), beside_record_lem (l / 2) n (get_or file b 0))
 
 -- ---- the four handles
@@ -115,32 +77,39 @@ four_long malformed = refl
 four_long ended = refl
 
 -- a command that has a record has no more than four numbers
-pub count_small : (c : Command) (hs : List Handle) → has_record (asked c hs) ≡ true → count_of c ≤ 4
+pub count_small : (c : Command) → has_record (asked c) ≡ true → count_of c ≤ 4
 unfolding has_record asked count_of
-count_small (SetUpᶜ n m c) hs e = omega arith
-count_small (Startᶜ u v) hs e = omega arith
-count_small (Deliverᶜ s r h) hs e = omega arith
-count_small (Storeᶜ d) hs e = omega arith
-count_small Nonceᶜ hs e = omega arith
-count_small (Listᶜ k) hs e = asked_fits k _ e
-count_small (Projectᶜ h i) hs e = omega arith
-count_small (Encryptᶜ k l) hs e = omega arith
-count_small (Decryptᶜ k c) hs e = omega arith
-count_small (Parseᶜ h) hs e = omega arith
+count_small (SetUpᶜ n m c) e = omega arith
+count_small (Startᶜ u v) e = omega arith
+count_small (Deliverᶜ s r h) e = omega arith
+count_small (Storeᶜ d) e = omega arith
+count_small Nonceᶜ e = omega arith
+count_small (Listᶜ k hs) e = asked_fits k _ e
+count_small (Projectᶜ h i) e = omega arith
+count_small (Encryptᶜ k l) e = omega arith
+count_small (Decryptᶜ k c) e = omega arith
+count_small (Parseᶜ h) e = omega arith
 
-pub count_long : (c : Command) (hs : List Handle) → has_record (asked c hs) ≡ true → length (values_of (asked c hs)) ≡ count_of c
+pub count_long : (c : Command) → has_record (asked c) ≡ true → length (values_of (asked c)) ≡ count_of c
 unfolding has_record asked values_of count_of
-count_long (SetUpᶜ n m c) hs e = refl
-count_long (Startᶜ u v) hs e = refl
-count_long (Deliverᶜ s r h) hs e = refl
-count_long (Storeᶜ d) hs e = refl
-count_long Nonceᶜ hs e = refl
-count_long (Listᶜ k) hs e =
+count_long (SetUpᶜ n m c) e = refl
+count_long (Startᶜ u v) e = refl
+count_long (Deliverᶜ s r h) e = refl
+count_long (Storeᶜ d) e = refl
+count_long Nonceᶜ e = refl
+count_long (Listᶜ k hs) e =
     length-take-le k (numbers_beside hs) (asked_fits k _ e)
-count_long (Projectᶜ h i) hs e = refl
-count_long (Encryptᶜ k l) hs e = refl
-count_long (Decryptᶜ k c) hs e = refl
-count_long (Parseᶜ h) hs e = refl
+count_long (Projectᶜ h i) e = refl
+count_long (Encryptᶜ k l) e = refl
+count_long (Decryptᶜ k c) e = refl
+count_long (Parseᶜ h) e = refl
+
+-- the numbers of such a command are as many as are counted
+pub values_long : (c : Command) (m n : ℕ) (vs : List ℕ) → has_record (asked c) ≡ true → m ≡ count_of c → n ≡ m → take (count_of c) vs ≡ values_of (asked c)
+    → (n ≤ 4) × (length (take n vs) ≡ n) × (take n vs ≡ values_of (asked c))
+values_long c m n vs h p q v =
+    let e : n ≡ count_of c = q ∙ p in
+    rw e (count_small c h, ap length v ∙ count_long c h, v)
 
 -- ---- bytes written one after another
 bytes_append : (xs ys : List ℕ) → bytes_of xs ++ bytes_of ys ≡ bytes_of (xs ++ ys)

@@ -1,29 +1,29 @@
 -- The stores that make an empty table: each knower's next handle, and the head on a run of zeros. Assumes nothing.
-use Prim.Native.Nat.{ℕ, ◌+◌, ◌-◌, ◌*◌, ◌≤◌}
-use native.Mathlib.Nat.{sub-zero}
+use Prim.Native.Nat.{ℕ, ◌+◌, ◌*◌}
 use native.Mathlib.Omega.{arith}
 use mathlib.Core.Path.{◌≡◌, refl, ◌∙◌}
 use mathlib.Core.List.{[], ◌∷◌, ◌++◌, append_assoc}
-use lib.ListN.{length, drop, replicate, length-replicate, replicate-append-replicate}
+use lib.ListN.{drop, replicate, length-replicate, replicate-append-replicate}
 use lib.Seq.{sets}
-use borrow.Rule.Slice.PartMut.{mid_of, put_mid, Post-is, mid_len}
-use Rattle.rules.specs.Table.{Table, size, this_version, most_of, words_for, put}
+use Rattle.rules.specs.Table.{Table, this_version, most_of, words_for, put}
 use Rattle.rules.specs.SetUp.{new_head, empty_table}
 use Rattle.rules.proofs.Stores.{sets_append}
 use Rattle.rules.proofs.Words.{put_head}
+use Rattle.set_up.proofs.Words.{new_most_high}
 
--- one handle more
+-- one handle more, and the last one
 pub handle_more : (t s s' : Table) (k : ℕ) → s ≡ sets t 5 (replicate k 1) → s' ≡ put s 0 (5 + k) 1 → s' ≡ sets t 5 (replicate (k + 1) 1)
 handle_more t s s' k q h =
     h ∙ put_head s (5 + k) 1
     ∙ rw (q, ← replicate-append-replicate {0} {A = ℕ} k 1 1) (rw length-replicate at (sets_append t 5 (replicate k 1) (1 ∷ [])))
 
--- the first w words of a run, lent, cleared, and back
-pub cleared : (t last : Table) (w v : ℕ) → w ≡ v → v ≤ size t → last ≡ replicate (length (mid_of 0 (w - 0) t)) 0
-    → put_mid 0 (w - 0) t last ≡ replicate v 0 ++ drop v t
-cleared t last w v e h q =
-    let l : length (mid_of 0 (w - 0) t) ≡ v = rw e (mid_len 0 v t h ∙ sub-zero v) in
-    rw (q, l, e, Post-is 0 v t (omega arith)) refl
+pub last_handle : (t s s' : Table) (k : ℕ) → k ≡ most_of this_version → s ≡ sets t 5 (replicate k 1) → s' ≡ put s 0 (5 + k) 1
+    → s' ≡ sets t 5 (replicate (1 + most_of this_version) 1)
+last_handle t s s' k e q h =
+    let more : k + 1 ≡ 1 + most_of this_version = omega arith in
+    rw more at (handle_more t s s' k q h)
+
+pub ruleset turns = (handle_more, last_handle, new_most_high)
 
 -- the head written to a cleared run
 module _ (t : Table) (n m c : ℕ) where

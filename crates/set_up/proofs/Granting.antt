@@ -42,8 +42,16 @@ module _ (t : Table) (named : ℕ → Bool) (e : ℕ) where
   below_named zero = refl
   below_named (suc k) = rw (← below_named k, add-one (suc k), add-one k) refl
 
-  pub below_all : (s : Table) (k n : ℕ) → s ≡ granted_below t named e k → k ≡ n + 1 → s ≡ grant_named t named e n
-  below_all s k n q h = q ∙ rw h (below_named n)
+  -- the highest knower
+  module _ (s : Table) (k : ℕ) (last : k ≡ most t) (done : s ≡ granted_below t named e k) where
+    pub last_granted : (s' : Table) → named k ≡ true → s' ≡ grant s k e → s' ≡ grant_named t named e (most t)
+    last_granted s' h q = rw (← last, ← below_named k) (below_granted s k done s' h q)
+
+    pub last_passed : named k ≡ false → s ≡ grant_named t named e (most t)
+    last_passed h = rw (← last, ← below_named k) (below_passed s k done h)
+
+-- each turn of the loop
+pub ruleset turns = (below_none, below_granted, below_passed, last_granted, last_passed)
 
 -- ---- one knower alone
 module _ (t : Table) (named : ℕ → Bool) (e o : ℕ) (alone : (k : ℕ) → named k ≡ eqb k o) where

@@ -1,7 +1,7 @@
 -- The keys of one participant, step by step, and of one participant more. Assumes nothing.
-use Prim.Native.Nat.{ℕ, ◌+◌}
-use native.Mathlib.Numerals.{add-one}
-use mathlib.Core.Path.{◌≡◌, refl, ◌∙◌}
+use Prim.Native.Nat.{ℕ, suc, ◌-◌, ◌≤◌}
+use native.Mathlib.Omega.{arith}
+use mathlib.Core.Path.{◌≡◌, refl, ap, ◌∙◌}
 use mathlib.Core.List.{[], ◌∷◌}
 use Rattle.rules.specs.Table.{Table, most}
 use Rattle.rules.specs.Terms.{secret_key, public_key, type_of, arguments_of, secret_key_length, public_key_length, new_entry, numbers_of, add_entry, create}
@@ -33,6 +33,11 @@ pub keys_none : (t : Table) (m : ℕ) → t ≡ add_all_keys t m 0
 unfolding add_all_keys
 keys_none t m = refl
 
-pub keys_more : (t s s' : Table) (m p : ℕ) → s ≡ add_all_keys t m p → s' ≡ add_keys s m (p + 1) → s' ≡ add_all_keys t m (p + 1)
+pub keys_more : (t s s' : Table) (m p q : ℕ) → 1 ≤ p → q ≡ p → s ≡ add_all_keys t m (p - 1) → s' ≡ add_keys s m p → s' ≡ add_all_keys t m q
 unfolding add_all_keys
-keys_more t s s' m p q h = h ∙ rw (q, add-one p) refl
+keys_more t s s' m p q l e d h =
+    let one_more : q ≡ suc (p - 1) = omega arith in
+    let back : p ≡ suc (p - 1) = omega arith in
+    h ∙ rw (one_more, d) (ap (add_keys (add_all_keys t m (p - 1)) m) back)
+
+pub ruleset turns = (keys_none, keys_more)

@@ -1,7 +1,7 @@
 // Printing for the programs that show a table: numbers, rows, holdings and the lines of answers, on standard output.
 #![tactic(auto)]
 
-use rules::{Answer, Entry, Found, Handle};
+use rules::{Answer, Entry, Handle};
 use std::io;
 
 pub fn text(rt: &impl Print, w: &[u8]) -> io::Result<()> {
@@ -15,16 +15,14 @@ pub fn number(rt: &impl Print, n: u16) -> io::Result<()> {
 
 // The entries that knower k's handles from 1 name, up to the first handle that names none.
 pub fn holdings(rt: &impl Print, t: &[u16], k: u16) -> io::Result<()> {
-    text(rt, b"knower")?;
-    number(rt, k)?;
-    text(rt, b":")?;
+    print!(rt; "knower {k}:")?;
     for h in 1..1000u16 {
-        let Found::At(e) = handles::entry_of(t, k, Handle(h)) else {
+        let Some(e) = handles::entry_of(t, k, Handle(h)) else {
             break;
         };
         number(rt, e.0)?;
     }
-    text(rt, b"\n")
+    println!(rt)
 }
 
 // The numbers of row e.
@@ -33,7 +31,7 @@ pub fn row(rt: &impl Print, t: &[u16], e: u16) -> io::Result<()> {
     for k in 0..width {
         number(rt, rows::word(t, Entry(e), k))?;
     }
-    text(rt, b"\n")
+    println!(rt)
 }
 
 // The first rows of a table, so many of them.
@@ -47,16 +45,15 @@ pub fn table(rt: &impl Print, t: &[u16], count: u16) -> io::Result<()> {
 // A word, a number and the end of the line.
 pub fn numbered(rt: &impl Print, w: &[u8], n: u16) -> io::Result<()> {
     text(rt, w)?;
-    number(rt, n)?;
-    text(rt, b"\n")
+    println!(rt; " {n}")
 }
 
 // The player's line of an answer to the record at a place. It fits for the places that a file has; a longer one is left out.
 pub fn line(rt: &impl Print, place: usize, a: Answer) -> io::Result<()> {
     let mut out = [0u8; 31];
     let end = text::line(&mut out, 0, place, a);
-    if end <= 31 {
-        text(rt, &out[..end])?;
+    match out.get(..end) {
+        Some(fits) => text(rt, fits),
+        None => Ok(()),
     }
-    Ok(())
 }

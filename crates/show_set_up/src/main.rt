@@ -6,26 +6,21 @@ use std::io;
 fn case_one(rt: &impl Print) -> io::Result<()> {
     let mut t = [9u16; 1040];
     show::line(rt, 1, set_up::set_up(&mut t, 3, 3, 64))?;
-    show::holdings(rt, &t, 0)?;
-    show::holdings(rt, &t, 1)?;
-    show::holdings(rt, &t, 2)?;
-    show::holdings(rt, &t, 3)
+    for k in 0..=3 {
+        show::holdings(rt, &t, k)?;
+    }
+    Ok(())
 }
 
-fn small_table(rt: &impl Print) -> io::Result<()> {
-    let mut t = [9u16; 288];
-    show::line(rt, 1, set_up::set_up(&mut t, 2, 1, 16))?;
-    show::table(rt, &t, 18)
+// Set-up 2 1 16, and so many rows of what it leaves.
+fn small_table(rt: &impl Print, t: &mut [u16], rows: u16) -> io::Result<()> {
+    show::line(rt, 1, set_up::set_up(t, 2, 1, 16))?;
+    show::table(rt, t, rows)
 }
 
-fn refused(rt: &impl Print) -> io::Result<()> {
-    let mut t = [9u16; 32];
-    show::line(rt, 1, set_up::set_up(&mut t, 2, 1, 16))?;
-    show::table(rt, &t, 2)
-}
-
+// The table of the last set-up is too short, so it is refused.
 fn main(rt: HostRuntime) -> io::Result<()> {
     case_one(&rt)?;
-    small_table(&rt)?;
-    refused(&rt)
+    small_table(&rt, &mut [9; 288], 18)?;
+    small_table(&rt, &mut [9; 32], 2)
 }

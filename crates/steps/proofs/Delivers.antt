@@ -1,5 +1,6 @@
 -- Who may act, and the ways that a delivery goes before anything is sent, in the facts that the code has there. Assumes nothing.
-use Rattle.std.specs.Prelude.{if◌then◌else◌}
+use Rattle.std.specs.Prelude.{Option, Some, None, Result, Ok, Err, if◌then◌else◌}
+use Rattle.std.specs.Option.{ok_or}
 use Prim.Native.Nat.{ℕ, ◌<◌}
 use native.Mathlib.Omega.{arith}
 use mathlib.Core.Path.{◌≡◌, refl, sym, ap}
@@ -12,21 +13,21 @@ use Rattle.rules.specs.Table.{Table, most, participants, type_at, is_participant
 use Rattle.rules.specs.Handles.{grant_each, entry_of, holds_handle}
 use Rattle.rules.specs.Outcome.{gives, accepted, dropped, refused, need, need_room}
 use Rattle.rules.specs.Steps.{Message, none, may_act, start, named_lengths, send_named, read_message, opened, answer_first, answer_second, answer_message, deliver_list, deliver}
-use Rattle.rules.specs.Meaning.{or_nothing}
+use Rattle.rules.specs.Meaning.{found_at, or_nothing}
 use Rattle.rules.specs.declared.Entry.{Entry}
+use Rattle.rules.specs.declared.Refusal.{Refusal}
 use Rattle.messages.specs.declared.Message.{Message as Messageᶜ}
 use Rattle.messages.specs.declared.Message.TheVariants.{First, Second, Third}
 use Rattle.messages.specs.Reading.{taken_for}
-use Rattle.rules.proofs.Logic.{and_left, and_right, first_of}
+use Rattle.rules.proofs.Logic.{and_right, first_of}
 use Rattle.rules.proofs.Words.{most_high}
 
--- the key of whoever is acted towards has a small number
-pub peer_low : (t : Table) (a b : ℕ) → may_act t a b ≡ true → b < 32768
-unfolding may_act is_participant
-peer_low t a b h =
-    let p = and_left (is_participant t b) _ (and_right (is_participant t a) _ h) in
-    let q = and_right (leb b (participants t)) _ (and_right (leb 1 b) _ p) in
-    omega (arith, leb-true b (most t) q, most_high t)
+-- a participant's key has a small number
+pub participant_low : (t : Table) (p : ℕ) → is_participant t p ≡ true → p < 32768
+unfolding is_participant
+participant_low t p h =
+    let q = and_right (leb p (participants t)) _ (and_right (leb 1 p) _ h) in
+    omega (arith, leb-true p (most t) q, most_high t)
 
 -- ---- a search's answer as a number
 nothing_found : (e : ℕ) → [] ≡ or_nothing e → eqb e 0 ≡ true
@@ -50,12 +51,23 @@ pub start_not : (t : Table) (u v : ℕ) → may_act t u v ≡ false → start t 
 unfolding start need
 start_not t u v h = rw h refl
 
-pub start_goes : (t : Table) (u v : ℕ) (known : List ℕ) → may_act t u v ≡ true → known ≡ []
-    → need_room t (named_lengths t u []) (send_named t u v known []) ≡ start t u v
+pub start_goes : (t : Table) (u v acting peer : ℕ) → (acting ≡ u) × (peer ≡ v) × (may_act t u v ≡ true)
+    → need_room t (named_lengths t acting []) (send_named t acting peer [] []) ≡ start t u v
 unfolding start need
-start_goes t u v known h k = rw (h, k) refl
+start_goes t u v acting peer h = rw (h.0, h.1, h.2) refl
 
 -- ---- deliver
+-- what a search that must find gives
+pub none_of : (o : Option Entry) (n e : Refusal) (r : Result Entry Refusal) → r ≡ ok_or o n → r ≡ Err e → (found_at o ≡ []) × (refused e.0 ≡ refused n.0)
+unfolding found_at
+none_of None n e r p q = let is : e ≡ n = cc in (refl, rw is refl)
+none_of (Some x) n e r p q = absurd (cc)
+
+pub some_of : (o : Option Entry) (n : Refusal) (l : Entry) (r : Result Entry Refusal) → r ≡ ok_or o n → r ≡ Ok l → found_at o ≡ l.0 ∷ []
+unfolding found_at
+some_of None n l r p q = absurd (cc)
+some_of (Some x) n l r p q = let is : x ≡ l = cc in rw is refl
+
 module _ (t : Table) (s r h : ℕ) where
   -- r may not act
   pub deliver_not : may_act t r s ≡ false → deliver t s r h ≡ gives (refused 3) t
@@ -67,11 +79,12 @@ module _ (t : Table) (s r h : ℕ) where
   unfolding deliver need holds_handle
   deliver_unheld a b = rw (a, nothing_found (entry_of t 0 h) b) refl
 
-  pub deliver_held : (l : ℕ) → may_act t r s ≡ true → l ∷ [] ≡ or_nothing (entry_of t 0 h) → deliver_list t s r l ≡ deliver t s r h
+  pub deliver_held : (l acting peer : ℕ) → (acting ≡ r) × (peer ≡ s) × (may_act t r s ≡ true) → l ∷ [] ≡ or_nothing (entry_of t 0 h)
+      → deliver_list t peer acting l ≡ deliver t s r h
   unfolding deliver need holds_handle
-  deliver_held l a b =
+  deliver_held l acting peer a b =
       let f = something_found (entry_of t 0 h) l b in
-      rw (a, f.1, f.0) refl
+      rw (a.0, a.1, a.2, f.1, f.0) refl
 
 -- ---- a list that is delivered
 module _ (t : Table) (s r l : ℕ) where

@@ -1,51 +1,47 @@
 -- What is made and sent, and the room for it: each way that the rules go, in the facts that the code has there. Assumes nothing.
-use Prim.Native.Nat.{ℕ, ◌+◌, ◌-◌, ◌*◌, ◌≤◌}
+use Rattle.std.specs.Prelude.{Result, Ok, Err}
+use Rattle.std.specs.Result.{IsErrAnd}
+use Rattle.std.proofs.lemmas.Result.{err_from_is_err_and}
+use Prim.Native.Nat.{ℕ, ◌+◌, ◌-◌, ◌≤◌}
 use native.Mathlib.Omega.{arith}
 use native.Mathlib.Decide.{ℕ_discrete, dec_le}
 use mathlib.Core.Path.{◌≡◌, refl, sym, ap, ◌∙◌}
 use mathlib.Core.Bool.{Bool, true, false}
-use mathlib.Core.List.{List, [], ◌∷◌, ◌++◌}
+use mathlib.Core.List.{List, [], ◌∷◌, ◌++◌, append-nil}
 use lib.Dec.{leb}
 use lib.ListN.{length}
-use borrow.Author.Tests.{le-leb, lt-leb, eq-eqb, ne_eqb, leb-true}
+use borrow.Author.Tests.{le-leb, lt-leb, eq-eqb, ne_eqb}
 use Rattle.rules.specs.Choice.{every}
 use Rattle.rules.specs.Table.{Table, used, capacity, length_at, handle}
-use Rattle.rules.specs.Terms.{Term, datum, list, type_of, arguments_of, longest, datum_length, nonce_length, list_length, ciphertext_length, public_key_of, numbers_of, new_entry, add_entry, create, find_datum, find_list}
+use Rattle.rules.specs.Terms.{Term, datum, nonce, list, ciphertext, longest, datum_length, nonce_length, list_length, ciphertext_length, public_key_of, numbers_of, new_entry, add_entry, create, find_datum, find_list}
 use Rattle.rules.specs.Handles.{grant, grant_each}
 use Rattle.rules.specs.Outcome.{Outcome, gives, refused, sent, need, is_short, need_room}
 use Rattle.rules.specs.Steps.{make, make_unless, unless_found, sealed_lengths, send, named_length, named_lengths, send_named, alone_length, answer_second}
-use Rattle.rules.specs.Meaning.{or_nothing}
-use Rattle.rules.proofs.Logic.{and_left, and_right}
+use Rattle.rules.specs.Meaning.{said, or_nothing}
+use Rattle.rules.specs.declared.Refusal.{Refusal}
+use Rattle.rules.specs.declared.Reply.{Reply}
 use Rattle.rules.proofs.Needs.{unless_none, unless_some, named_count, alone_count}
-use Rattle.rows.specs.Row.{seven}
 use Rattle.steps.specs.Sending.{made_at, add_unless, refusal_for}
+use Rattle.steps.proofs.Knowing.{grant_append}
 
 -- ---- room
-refused_some : (t : Table) (rest : Outcome) (a b : Bool) (n : ℕ) → n ≡ refusal_for a b → (n ≡ 0 → ⊥)
-    → need a 9 t (need b 10 t rest) ≡ gives (refused n) t
+-- what leaves with a refusal
+pub said_refused : (z : Result Reply Refusal) (e : Refusal) → IsErrAnd z (λ y. y ≡ e) → said z ≡ refused e.0
+unfolding said
+said_refused z e h = let y = err_from_is_err_and z h in rw (y.1, y.2) refl
+
+refused_some : (t : Table) (rest : Outcome) (a b : Bool) (e : Refusal) → Err e ≡ refusal_for a b
+    → need a 9 t (need b 10 t rest) ≡ gives (refused e.0) t
 unfolding need
-refused_some t rest false b n q z = rw q refl
-refused_some t rest true false n q z = rw q refl
-refused_some t rest true true n q z = absurd (z q)
+refused_some t rest false b e q = let is : e ≡ record { 0 = 9 } = cc in rw is refl
+refused_some t rest true false e q = let is : e ≡ record { 0 = 10 } = cc in rw is refl
+refused_some t rest true true e q = cc
 
-refused_none : (t : Table) (rest : Outcome) (a b : Bool) (n : ℕ) → n ≡ refusal_for a b → n ≡ 0 → need a 9 t (need b 10 t rest) ≡ rest
+refused_none : (t : Table) (rest : Outcome) (a b : Bool) → Ok tt ≡ refusal_for a b → need a 9 t (need b 10 t rest) ≡ rest
 unfolding need
-refused_none t rest false b n q z = absurd (omega arith)
-refused_none t rest true false n q z = absurd (omega arith)
-refused_none t rest true true n q z = refl
-
-short_enough : (a b : Bool) (n : ℕ) → n ≡ refusal_for a b → n ≡ 0 → a ≡ true
-short_enough true b n q z = refl
-short_enough false b n q z = absurd (omega arith)
-
--- what is short enough when sealed is far below what a word holds
-pub sealed_low : (l n : ℕ) (b : Bool) → n ≡ refusal_for (every is_short (l ∷ sealed_lengths l)) b → n ≡ 0 → l + 18 ≤ 4095
-unfolding every is_short sealed_lengths list_length ciphertext_length longest
-sealed_low l n b q z =
-    let h = short_enough (every is_short (l ∷ sealed_lengths l)) b n q z in
-    let a = and_right (leb l 4095) _ h in
-    let e = and_left (leb (2 + (l + 16)) 4095) true (and_right (leb (l + 16) 4095) _ a) in
-    omega (arith, leb-true (2 + (l + 16)) 4095 e)
+refused_none t rest false b q = cc
+refused_none t rest true false q = cc
+refused_none t rest true true q = refl
 
 -- how many entries a search leaves to be made
 search_asks : (f l m : ℕ) (found : List ℕ) → found ≡ or_nothing f → m + length found ≡ 1 → length (unless_found f l) ≡ m
@@ -67,23 +63,25 @@ named_short t p repeated = go (ℕ_discrete (find_datum t p) 0)
     go (yes z) = rw (eq-eqb (find_datum t p) 0 z) refl
     go (no z) = rw (ne_eqb (find_datum t p) 0 z) refl
 
-module _ (t : Table) (p l m n : ℕ) (repeated found : List ℕ) (rest : Outcome) (isLength : l ≡ named_length t repeated)
-    (is_found : found ≡ or_nothing (find_datum t p)) (asks : m + length found ≡ 1)
-    (says : n ≡ refusal_for (every is_short (l ∷ sealed_lengths l)) (leb (4 + m) (capacity t - used t))) where
+module _ (t : Table) (p l m : ℕ) (repeated found : List ℕ) (rest : Outcome) (isLength : l ≡ named_length t repeated)
+    (is_found : found ≡ or_nothing (find_datum t p)) (asks : m + length found ≡ 1) where
   -- the entries that are asked for
   named_many : length (named_lengths t p repeated) ≡ 4 + m
   named_many = named_count t p repeated ∙ ap (λ (k : ℕ). 4 + k) (search_asks (find_datum t p) datum_length m found is_found asks)
 
-  named_says : n ≡ refusal_for (every is_short (named_lengths t p repeated)) (leb (length (named_lengths t p repeated)) (capacity t - used t))
-  named_says = rw (named_short t p repeated, named_many, ← isLength) says
+  named_asked : refusal_for (every is_short (l ∷ sealed_lengths l)) (leb (4 + m) (capacity t - used t))
+      ≡ refusal_for (every is_short (named_lengths t p repeated)) (leb (length (named_lengths t p repeated)) (capacity t - used t))
+  named_asked = rw (named_short t p repeated, named_many, ← isLength) refl
 
-  pub named_not : (n ≡ 0 → ⊥) → need_room t (named_lengths t p repeated) rest ≡ gives (refused n) t
+  pub named_not : (e : Refusal) → Err e ≡ refusal_for (every is_short (l ∷ sealed_lengths l)) (leb (4 + m) (capacity t - used t))
+      → need_room t (named_lengths t p repeated) rest ≡ gives (refused e.0) t
   unfolding need_room
-  named_not z = refused_some t rest _ _ n named_says z
+  named_not e z = refused_some t rest _ _ e (z ∙ named_asked)
 
-  pub named_there : n ≡ 0 → need_room t (named_lengths t p repeated) rest ≡ rest
+  pub named_there : Ok tt ≡ refusal_for (every is_short (l ∷ sealed_lengths l)) (leb (4 + m) (capacity t - used t))
+      → need_room t (named_lengths t p repeated) rest ≡ rest
   unfolding need_room
-  named_there z = refused_none t rest _ _ n named_says z
+  named_there z = refused_none t rest _ _ (z ∙ named_asked)
 
 -- ---- room for a list alone
 -- what is sealed short is short
@@ -106,42 +104,34 @@ unless_made f t x l = go (ℕ_discrete f 0)
     go (yes z) = rw (eq-eqb f 0 z) refl
     go (no z) = rw (ne_eqb f 0 z) refl
 
-pub list_three : (t : Table) (x n d l : ℕ) → add_entry t (seven 3 3 (x ∷ n ∷ d ∷ 0 ∷ []) l) ≡ create t (list (x ∷ n ∷ d ∷ [])) l
-unfolding create numbers_of type_of arguments_of seven
-list_three t x n d l = refl
-
-pub list_two : (t : Table) (n d l : ℕ) → add_entry t (seven 3 2 (n ∷ d ∷ 0 ∷ 0 ∷ []) l) ≡ create t (list (n ∷ d ∷ [])) l
-unfolding create numbers_of type_of arguments_of seven
-list_two t n d l = refl
-
 -- ---- what is sent
-pub send_goes : (t t₁ t₂ t₃ t₄ : Table) (p q inner l c o h : ℕ) (known row : List ℕ)
-    → t₁ ≡ add_entry t (seven 4 2 (2 * q ∷ inner ∷ 0 ∷ 0 ∷ []) (l + 16)) → c ≡ new_entry t
-    → t₂ ≡ add_entry t₁ (seven 3 1 (c ∷ 0 ∷ 0 ∷ 0 ∷ []) (2 + (l + 16))) → o ≡ new_entry t₁
-    → row ≡ known ++ (inner ∷ c ∷ o ∷ []) → t₃ ≡ grant_each t₂ p row → t₄ ≡ grant t₃ 0 o → h ≡ handle t₄ 0 o
-    → gives (sent p q h) t₄ ≡ send p q known (made_at inner t) l
-unfolding send make create numbers_of type_of arguments_of seven public_key_of ciphertext_length list_length
-send_goes t t₁ t₂ t₃ t₄ p q inner l c o h known row a b d e f g i j = rw (j, i, g, f, d, e, a, b) refl
+pub send_goes : (t t₁ t₂ t₃ t₄ t₅ t₆ : Table) (p q inner l c o h : ℕ) (known made ns ms : List ℕ)
+    → ns ≡ numbers_of (ciphertext (public_key_of q) inner) (ciphertext_length l) → t₁ ≡ add_entry t ns → c ≡ new_entry t
+    → ms ≡ numbers_of (list (c ∷ [])) (2 + (l + 16)) → t₂ ≡ add_entry t₁ ms → o ≡ new_entry t₁
+    → t₃ ≡ grant_each t₂ p known → t₄ ≡ grant_each t₃ p made → t₅ ≡ grant_each t₄ p (inner ∷ c ∷ o ∷ []) → t₆ ≡ grant t₅ 0 o
+    → h ≡ handle t₆ 0 o → gives (sent p q h) t₆ ≡ send p q (known ++ made) (made_at inner t) l
+unfolding send make create ciphertext_length list_length
+send_goes t t₁ t₂ t₃ t₄ t₅ t₆ p q inner l c o h known made ns ms a b d e f g i j k m n =
+    rw (n, m, k, j, i, g, f, e, d, b, a, grant_append, grant_append) refl
 
-pub named_goes : (t t₁ t₂ t₃ : Table) (p q l n d i : ℕ) (known row repeated found : List ℕ) → l ≡ named_length t repeated
-    → found ≡ or_nothing (find_datum t p) → t₁ ≡ add_entry t (seven 2 2 (p ∷ q ∷ 0 ∷ 0 ∷ []) 8) → n ≡ new_entry t
-    → t₂ ≡ (add_unless found t₁ (seven 1 1 (p ∷ 0 ∷ 0 ∷ 0 ∷ []) 2)).table → d ≡ (add_unless found t₁ (seven 1 1 (p ∷ 0 ∷ 0 ∷ 0 ∷ []) 2)).entry
-    → t₃ ≡ create t₂ (list (repeated ++ (n ∷ d ∷ []))) l → i ≡ new_entry t₂ → row ≡ known ++ (n ∷ d ∷ [])
-    → send p q row (made_at i t₃) l ≡ send_named t p q known repeated
-unfolding send_named make create numbers_of type_of arguments_of seven nonce_length datum_length
-named_goes t t₁ t₂ t₃ p q l n d i known row repeated found a b e f g h j k m =
-    let made : add_unless found t₁ (seven 1 1 (p ∷ 0 ∷ 0 ∷ 0 ∷ []) 2) ≡ make_unless (find_datum t p) t₁ (datum p) 2 =
-    rw b (unless_made (find_datum t p) t₁ (datum p) 2) in
-    rw (m, j, k, g, h, made, e, f, a) refl
+pub named_goes : (t t₁ t₂ t₃ : Table) (p q l n d i : ℕ) (known repeated found ns ms ls : List ℕ) → l ≡ named_length t repeated
+    → found ≡ or_nothing (find_datum t p) → ns ≡ numbers_of (nonce p q) nonce_length → t₁ ≡ add_entry t ns → n ≡ new_entry t
+    → ms ≡ numbers_of (datum p) datum_length → t₂ ≡ (add_unless found t₁ ms).table → d ≡ (add_unless found t₁ ms).entry
+    → ls ≡ numbers_of (list (repeated ++ (n ∷ d ∷ []))) l → t₃ ≡ add_entry t₂ ls → i ≡ new_entry t₂
+    → send p q (known ++ (n ∷ d ∷ [])) (made_at i t₃) l ≡ send_named t p q known repeated
+unfolding send_named make create
+named_goes t t₁ t₂ t₃ p q l n d i known repeated found ns ms ls a b e f g h j k m s v =
+    let made : add_unless found t₁ ms ≡ make_unless (find_datum t p) t₁ (datum p) datum_length =
+    rw (b, h) (unless_made (find_datum t p) t₁ (datum p) datum_length) in
+    rw (v, s, m, j, k, made, g, f, e, a) refl
 
 -- ---- x back, alone
-pub alone_length_lem : (t : Table) (x n : ℕ) → n ≡ length_at t x → 2 + n ≡ alone_length t x
+pub alone_length_lem : (t : Table) (x m n : ℕ) → n ≡ length_at t x → m ≡ n → 2 + m ≡ alone_length t x
 unfolding alone_length list_length
-alone_length_lem t x n q = rw q refl
+alone_length_lem t x m n q p = rw (p, q) refl
 
-module _ (t : Table) (r s x l m n : ℕ) (known found : List ℕ) (isLength : l ≡ alone_length t x)
-    (is_found : found ≡ or_nothing (find_list t (x ∷ []))) (asks : m + length found ≡ 1)
-    (says : n ≡ refusal_for (every is_short (l ∷ sealed_lengths l)) (leb (2 + m) (capacity t - used t))) where
+module _ (t : Table) (r s x l m : ℕ) (known found : List ℕ) (isLength : l ≡ alone_length t x)
+    (is_found : found ≡ or_nothing (find_list t (x ∷ []))) (asks : m + length found ≡ 1) where
   -- the new entries by their lengths
   alone : List ℕ
   alone = unless_found (find_list t (x ∷ [])) (alone_length t x) ++ sealed_lengths (alone_length t x)
@@ -152,19 +142,22 @@ module _ (t : Table) (r s x l m n : ℕ) (known found : List ℕ) (isLength : l 
       alone_count (find_list t (x ∷ [])) (alone_length t x)
       ∙ ap (λ (k : ℕ). 2 + k) (search_asks (find_list t (x ∷ [])) (alone_length t x) m found is_found asks)
 
-  alone_says : n ≡ refusal_for (every is_short alone) (leb (length alone) (capacity t - used t))
+  alone_asked : refusal_for (every is_short (l ∷ sealed_lengths l)) (leb (2 + m) (capacity t - used t))
+      ≡ refusal_for (every is_short alone) (leb (length alone) (capacity t - used t))
   unfolding alone
-  alone_says = rw (alone_short (find_list t (x ∷ [])) (alone_length t x), alone_many, ← isLength) says
+  alone_asked = rw (alone_short (find_list t (x ∷ [])) (alone_length t x), alone_many, ← isLength) refl
 
-  pub second_not : (n ≡ 0 → ⊥) → answer_second t r s known x ≡ gives (refused n) t
+  pub second_not : (e : Refusal) → Err e ≡ refusal_for (every is_short (l ∷ sealed_lengths l)) (leb (2 + m) (capacity t - used t))
+      → answer_second t r s known x ≡ gives (refused e.0) t
   unfolding answer_second need_room alone
-  second_not z = refused_some t _ _ _ n alone_says z
+  second_not e q = refused_some t _ _ _ e (q ∙ alone_asked)
 
-  pub second_goes : (i : ℕ) (t₁ : Table) → n ≡ 0
-      → t₁ ≡ (add_unless found t (seven 3 1 (x ∷ 0 ∷ 0 ∷ 0 ∷ []) l)).table → i ≡ (add_unless found t (seven 3 1 (x ∷ 0 ∷ 0 ∷ 0 ∷ []) l)).entry
-      → send r s known (made_at i t₁) l ≡ answer_second t r s known x
-  unfolding answer_second need_room alone numbers_of type_of arguments_of seven
-  second_goes i t₁ z p q =
-      let made : add_unless found t (seven 3 1 (x ∷ 0 ∷ 0 ∷ 0 ∷ []) l) ≡ make_unless (find_list t (x ∷ [])) t (list (x ∷ [])) l =
-      rw is_found (unless_made (find_list t (x ∷ [])) t (list (x ∷ [])) l) in
-      rw (p, q, made, isLength) (sym (refused_none t _ _ _ n alone_says z))
+  pub second_goes : (i k : ℕ) (t₁ : Table) (ns : List ℕ)
+      → (k ≡ l) × (Ok tt ≡ refusal_for (every is_short (l ∷ sealed_lengths l)) (leb (2 + m) (capacity t - used t)))
+      → ns ≡ numbers_of (list (x ∷ [])) k → t₁ ≡ (add_unless found t ns).table → i ≡ (add_unless found t ns).entry
+      → send r s (known ++ []) (made_at i t₁) k ≡ answer_second t r s known x
+  unfolding answer_second need_room alone
+  second_goes i k t₁ ns q n p o =
+      let made : add_unless found t ns ≡ make_unless (find_list t (x ∷ [])) t (list (x ∷ [])) l =
+      rw (is_found, n, q.0) (unless_made (find_list t (x ∷ [])) t (list (x ∷ [])) l) in
+      rw (append-nil, p, o, made, q.0, isLength) (sym (refused_none t _ _ _ (q.1 ∙ alone_asked)))

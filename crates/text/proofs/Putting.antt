@@ -1,6 +1,6 @@
 -- A bounded append composes, keeps the output's length, and leaves no choice; the next place says whether the bytes fit. So a number and a
 -- line are written by their parts. Assumes nothing.
-use Prim.Native.Nat.{ℕ, suc, ◌+◌, ◌/◌, ◌%◌, ◌≤◌, ◌<◌, min}
+use Prim.Native.Nat.{ℕ, suc, ◌+◌, ◌-◌, ◌/◌, ◌%◌, ◌≤◌, ◌<◌, min}
 use native.Mathlib.Nat.{zero-add}
 use native.Mathlib.Numerals.{add-one}
 use native.Mathlib.Decide.{dec_le}
@@ -8,6 +8,7 @@ use native.Mathlib.Omega.{arith}
 use mathlib.Core.Path.{◌≡◌, refl, sym, ap, ◌∙◌}
 use mathlib.Core.List.{List, [], ◌∷◌, ◌++◌, append_assoc}
 use lib.ListN.{length, take, drop, get_or, set, length-append}
+use borrow.Rule.Slice.PartMut.{put_mid, Post-is}
 use lib.Seq.{sets, take-suc, set_out, length-sets, sets-eq}
 use Rattle.rules.specs.Player.{digit, decimal, word_of, spaced, line_of}
 use Rattle.rules.proofs.Stores.{sets_append}
@@ -69,6 +70,12 @@ put_from {a} {i} {n} {xs} e p = record { written = p.written ∙ sets_min a i n 
 pub put_one : (a : List ℕ) (i x : ℕ) {j : ℕ} → i < length a → j ≡ i + 1 → Put a i (x ∷ []) (set a i x) j
 put_one a i x h e = record { written = refl; place = omega arith }
 
+-- bytes that fit, all at once
+pub put_all :
+    (a : List ℕ) (i : ℕ) (w ys : List ℕ) → i + length w ≤ length a → ys ≡ w → Put a i w (put_mid i (i + length w - i) a ys) (i + length w)
+put_all a i w ys h e =
+    record { written = rw (e, Post-is i (i + length w) a (omega arith), ← append_assoc) (sym (sets-eq w a i h)); place = omega arith }
+
 -- ---- one append after another
 pub then :
     {a : List ℕ} {i : ℕ} {xs b : List ℕ} {j : ℕ} {ys c : List ℕ} {k : ℕ}
@@ -88,8 +95,12 @@ pub more :
 more w n h p q = rw (add-one, take-suc w n 0 h) (then p q)
 
 -- ---- a number
-pub digit_put : (n : ℕ) {a : List ℕ} {i : ℕ} {b : List ℕ} {j : ℕ} → n < 10 → Put a i (digit n ∷ []) b j → Put a i (decimal n) b j
-digit_put n h p = rw (decimal_small n h) p
+pub digit_put :
+    (n : ℕ) {d : ℕ} {a : List ℕ} {i : ℕ} {b : List ℕ} {j : ℕ}
+    → n < 10 → d ≡ digit (n % 10) → Put a i (d ∷ []) b j → Put a i (decimal n) b j
+digit_put n h e p =
+    let m : n % 10 ≡ n = omega arith in
+    rw (decimal_small n h) (rw (e, m) at p)
 
 pub two_put :
     (n : ℕ) {a : List ℕ} {i : ℕ} {b : List ℕ} {j : ℕ}
@@ -122,9 +133,9 @@ pub values_put :
 unfolding spaced
 values_put v vs p q = then p q
 
--- the record's number, the word, the values
+-- the record's number, then the word and the values
 pub line_put :
-    (place n : ℕ) (vs : List ℕ) {a : List ℕ} {i : ℕ} {b : List ℕ} {j : ℕ} {c : List ℕ} {k : ℕ} {d : List ℕ} {l : ℕ}
-    → Put a i (decimal place) b j → Put b j (32 ∷ word_of n) c k → Put c k (spaced vs) d l → Put a i (line_of place (n ∷ vs)) d l
+    (place n : ℕ) (vs : List ℕ) {a : List ℕ} {i : ℕ} {b : List ℕ} {j : ℕ} {c : List ℕ} {k : ℕ}
+    → Put a i (decimal place) b j → Put b j ((32 ∷ word_of n) ++ spaced vs) c k → Put a i (line_of place (n ∷ vs)) c k
 unfolding line_of
-line_put place n vs p q r = then p (then q r)
+line_put place n vs p q = then p q

@@ -1,15 +1,17 @@
-// Text into a lent output, with a bound: numbers in decimal (rule P1) and the player's lines (rules P2 and P3). What falls past the end is left out,
-// and the place given back is then one past the length.
+// Text into a lent output, with a bound: numbers in decimal (rule P1) and the player's lines (rules P2 and P3). What falls past the end is
+// left out, and the place given back is then one past the length: no Option, since `Put`, which `player::play` promises too, says it as a
+// number. Output and place stay two arguments: in one value each clause would speak of its fields before and after.
 #![tactic(auto)]
 
-ghost use Rattle.std.specs.Prelude.{◌≡◌, [], ◌∷◌, ◌+◌, ◌/◌, ◌%◌, ◌≤◌, min, length};
+ghost use Rattle.std.specs.Prelude.{◌≡◌, [], ◌∷◌, ◌++◌, ◌+◌, ◌/◌, ◌%◌, ◌≤◌, length};
 ghost use Rattle.rules.specs.Player.{space, digit, decimal, spaced, line_of};
 ghost use Rattle.rules.specs.Meaning.{said};
 ghost use Rattle.text.specs.Put.{Put};
 
-use rules::Answer;
+use rules::{Answer, Reply};
 
 // One byte, if its place is within the output.
+// A test and a store, since after a `get_mut` a proof knows none of the elements.
 pub fn byte(out: &mut [u8], at: usize, b: u8) -> usize
     ensures { Put out.old at (b ∷ []) out.new result }
 {
@@ -21,23 +23,14 @@ pub fn byte(out: &mut [u8], at: usize, b: u8) -> usize
     }
 }
 
-// A place, at most one past the length.
-fn bounded(out: &[u8], at: usize) -> usize
-    ensures { result ≡ min at (length out.now + 1) }
-{
-    if at <= out.len() { at } else { out.len() + 1 }
-}
-
 // The bytes of a slice, each if its place is within the output.
 fn cut(out: &mut [u8], at: usize, w: &[u8]) -> usize
     requires { at ≤ length out.old + 1 }
     ensures { Put out.old at w.now out.new result }
 {
     let mut end = at;
-    let mut i: usize = 0;
-    while i < w.len() {
-        end = byte(out, end, w[i]);
-        i += 1;
+    for &b in w {
+        end = byte(out, end, b);
     }
     end
 }
@@ -46,25 +39,29 @@ fn cut(out: &mut [u8], at: usize, w: &[u8]) -> usize
 pub fn word(out: &mut [u8], at: usize, w: &[u8]) -> usize
     ensures { Put out.old at w.now out.new result }
 {
-    let start = bounded(out, at);
+    let start = at.min(out.len() + 1);
     let end = start + w.len();
     if out.len() < end {
         return cut(out, start, w);
     }
-    let mut i: usize = 0;
-    while i < w.len() {
-        out[start + i] = w[i];
-        i += 1;
-    }
+    out[start..end].copy_from_slice(w);
     end
+}
+
+// The last digit of a number.
+// By `as`, since it fits: `u8::try_from` would have a case that can't be.
+fn last(n: usize) -> u8
+    ensures { result ≡ digit (n % 10) }
+{
+    b'0' + (n % 10) as u8
 }
 
 // The last two digits of a number.
 fn two(out: &mut [u8], at: usize, n: usize) -> usize
     ensures { Put out.old at (digit (n / 10 % 10) ∷ digit (n % 10) ∷ []) out.new result }
 {
-    let last = byte(out, at, 48 + (n / 10 % 10) as u8);
-    byte(out, last, 48 + (n % 10) as u8)
+    let after = byte(out, at, last(n / 10));
+    byte(out, after, last(n))
 }
 
 // A number in decimal: its higher digits, then the last two. Few numbers have more than four.
@@ -72,13 +69,13 @@ pub fn number(out: &mut [u8], at: usize, n: usize) -> usize
     ensures { Put out.old at (decimal n) out.new result }
 {
     if n < 10 {
-        return byte(out, at, 48 + n as u8);
+        return byte(out, at, last(n));
     }
     if n < 100 {
         return two(out, at, n);
     }
     if n < 1000 {
-        let after = byte(out, at, 48 + (n / 100) as u8);
+        let after = byte(out, at, last(n / 100));
         return two(out, after, n);
     }
     if n < 10000 {
@@ -93,36 +90,27 @@ pub fn number(out: &mut [u8], at: usize, n: usize) -> usize
 fn value(out: &mut [u8], at: usize, v: u16) -> usize
     ensures { Put out.old at (space ∷ decimal v) out.new result }
 {
-    let after = byte(out, at, 32);
-    number(out, after, v as usize)
+    let after = byte(out, at, b' ');
+    number(out, after, usize::from(v))
 }
 
 // What a line ends with: its values and the line feed.
-fn no_value(out: &mut [u8], at: usize) -> usize
-    ensures { Put out.old at (spaced []) out.new result }
+fn values(out: &mut [u8], at: usize, vs: &[u16]) -> usize
+    ensures { Put out.old at (spaced vs.now) out.new result }
 {
-    byte(out, at, 10)
+    let mut end = at;
+    for &v in vs {
+        end = value(out, end, v);
+    }
+    byte(out, end, b'\n')
 }
 
-fn one_value(out: &mut [u8], at: usize, v: u16) -> usize
-    ensures { Put out.old at (spaced (v ∷ [])) out.new result }
+// What follows the record's number in a line: a word and the values.
+fn rest(out: &mut [u8], at: usize, w: &[u8], vs: &[u16]) -> usize
+    ensures { Put out.old at (w.now ++ spaced vs.now) out.new result }
 {
-    let after = value(out, at, v);
-    no_value(out, after)
-}
-
-fn two_values(out: &mut [u8], at: usize, v: u16, w: u16) -> usize
-    ensures { Put out.old at (spaced (v ∷ w ∷ [])) out.new result }
-{
-    let after = value(out, at, v);
-    one_value(out, after, w)
-}
-
-fn three_values(out: &mut [u8], at: usize, v: u16, w: u16, x: u16) -> usize
-    ensures { Put out.old at (spaced (v ∷ w ∷ x ∷ [])) out.new result }
-{
-    let after = value(out, at, v);
-    two_values(out, after, w, x)
+    let end = word(out, at, w);
+    values(out, end, vs)
 }
 
 // The line of an answer to the record at a place.
@@ -131,33 +119,12 @@ pub fn line(out: &mut [u8], at: usize, place: usize, a: Answer) -> usize
 {
     let after = number(out, at, place);
     match a {
-        Answer::Ready(u) => {
-            let end = word(out, after, b" ready");
-            one_value(out, end, u)
-        }
-        Answer::Sent(p, q, h) => {
-            let end = word(out, after, b" sent");
-            three_values(out, end, p, q, h.0)
-        }
-        Answer::Accepted(p, q) => {
-            let end = word(out, after, b" accepted");
-            two_values(out, end, p, q)
-        }
-        Answer::Dropped => {
-            let end = word(out, after, b" dropped");
-            no_value(out, end)
-        }
-        Answer::Handle(h) => {
-            let end = word(out, after, b" handle");
-            one_value(out, end, h.0)
-        }
-        Answer::Parsed(y, v, l) => {
-            let end = word(out, after, b" parsed");
-            three_values(out, end, y, v, l)
-        }
-        Answer::Refused(n) => {
-            let end = word(out, after, b" refused");
-            one_value(out, end, n)
-        }
+        Ok(Reply::Ready(u)) => rest(out, after, b" ready", &[u]),
+        Ok(Reply::Sent(p, q, h)) => rest(out, after, b" sent", &[p, q, h.0]),
+        Ok(Reply::Accepted(p, q)) => rest(out, after, b" accepted", &[p, q]),
+        Ok(Reply::Dropped) => rest(out, after, b" dropped", &[]),
+        Ok(Reply::Handle(h)) => rest(out, after, b" handle", &[h.0]),
+        Ok(Reply::Parsed(y, v, l)) => rest(out, after, b" parsed", &[y, v, l]),
+        Err(refusal) => rest(out, after, b" refused", &[refusal.0]),
     }
 }

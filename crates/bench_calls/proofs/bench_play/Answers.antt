@@ -1,5 +1,6 @@
 -- `bench_calls::bench_play` meets its contract: the place after the lines says whether they fit, and their number is below the result's bound.
 use native.Mathlib.Omega.{arith}
+use borrow.Author.Rules.{rules}
 use Rattle.rules.specs.Player.{most_bytes}
 use Rattle.text.proofs.Putting.{put_length}
 use Rattle.bench_calls.proofs.Calling.{fitting, over}
@@ -16,5 +17,5 @@ returns-then-end-out c =
 
 pub returns : goal.returns
 returns c =
-    let w = over _ c.play-end.ensures.put (omega (arith, put_length c.play-end.ensures.put, c.if-end-out.false)) c.clear.ensures in
+    let w = over _ c.play-end.ensures.put (omega (arith, put_length c.play-end.ensures.put, c.if-end-out.false)) (search rules) in
     record { value = w.0; output = w.1; small = c.play-end.ensures.small }

@@ -1,20 +1,24 @@
 -- `commands::encrypt` meets its contract: both handles are looked up before either entry is read.
 use mathlib.Core.Path.{refl}
 use Rattle.rules.specs.Commands.{encrypt_of, encrypt}
-use Rattle.rules.specs.Meaning.{said}
 use Rattle.rules.proofs.Needs.{ends}
+use Rattle.commands.proofs.Ways.{went_on, stopped, refusal}
 use Rattle.commands.proofs.Sealing.{two_unheld, two_held}
 use Rattle.commands.proofs.encrypt.Goals as goal
 
-pub returns-then-not-two : goal.returns-then-not-two
-unfolding said encrypt
-returns-then-not-two c =
-    let both = ends (two_unheld _ _ _ (encrypt_of _) _ c.look_up_two-two.ensures.held c.if-not-two.true) (refl, refl) in
+pub returns-in_err-key : goal.returns-in_err-key
+unfolding encrypt
+returns-in_err-key c =
+    let none = stopped _ _ _ c.ok_or.ensures.value _ c.in_err-key.was in
+    let answer = refusal _ _ _ c.ok_or.ensures.value _ c.in_err-key.was c.from_residual.result c.from_residual.ensures.1 in
+    let both = ends (two_unheld c.args.t.now c.args.key.0 c.args.list.0 (encrypt_of _) _ c.look_up_two.ensures none) (answer, refl) in
     record { answer = both.0; table = both.1 }
 
 pub returns : goal.returns
 unfolding encrypt
 returns c =
-    let both = ends (two_held _ _ _ (encrypt_of _) _ c.look_up_two-two.ensures.held _ _ c.if-not-two.false
-    c.look_up_two-two.ensures.entries) (c.encrypt_of.ensures.answer, c.encrypt_of.ensures.table) in
+    let some = went_on _ _ _ c.ok_or.ensures.value _ c.in_ok-key.was in
+    let both = ends
+    (two_held c.args.t.now c.args.key.0 c.args.list.0 (encrypt_of _) _ c.look_up_two.ensures _ _ some)
+    (c.encrypt_of.ensures.answer, c.encrypt_of.ensures.table) in
     record { answer = both.0; table = both.1 }

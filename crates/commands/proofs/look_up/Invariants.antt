@@ -1,6 +1,5 @@
 -- `commands::look_up` meets its contract: when handle i is reached the first i are held, and the entries are theirs with zeros after
 -- them.
-use Prim.Native.Nat.{◌-◌, ◌≤◌}
 use mathlib.Core.Path.{◌≡◌}
 use mathlib.Core.Bool.{true}
 use lib.ListN.{take}
@@ -12,7 +11,4 @@ use Rattle.commands.proofs.Arrays.{through}
 use Rattle.commands.proofs.look_up.Given as goal
 
 abbrev pub invariant-loop-i : goal.invariant-loop-i
-invariant-loop-i l = (l.i ≤ l.count) × (numbers l.entries ≡ through (entry_of l.t 0) l.i (numbers_beside l.handles)) × (every (holds_handle l.t 0) (take l.i (numbers_beside l.handles)) ≡ true)
-
-abbrev pub decreases-loop-i : goal.decreases-loop-i
-decreases-loop-i l = l.count - l.i
+invariant-loop-i l = (numbers l.entries ≡ through (entry_of l.t 0) l.i (numbers_beside l.fn.handles)) × (every (holds_handle l.t 0) (take l.i (numbers_beside l.fn.handles)) ≡ true)

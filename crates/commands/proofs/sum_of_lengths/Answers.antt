@@ -1,25 +1,26 @@
--- `commands::sum_of_lengths` meets its contract: when entry i is reached the sum is that of the first i, each at most 65535.
+-- `commands::sum_of_lengths` meets its contract: all are added up, each at most 65535.
+use Prim.Native.Nat.{◌+◌, ◌*◌}
 use native.Mathlib.Omega.{arith}
-use mathlib.Core.Path.{◌≡◌, refl, sym, ap, ◌∙◌}
-use lib.ListN.{length}
-use Rattle.rules.specs.Table.{length_at}
+use mathlib.Core.Path.{◌≡◌, ◌∙◌}
+use Rattle.std.proofs.Common.{rules}
+use Rattle.std.proofs.iter.runs.Sources.{sums}
+use Rattle.std.specs.List.{sum_by}
+use Rattle.rules.specs.Table.{row_width, word, length_at}
+use Rattle.rules.specs.declared.Entry.{Entry}
 use Rattle.terms.specs.Elements.{numbers}
-use Rattle.terms.proofs.Numbers.{numbers_length, number_at_lem}
-use Rattle.commands.proofs.Arrays.{sum_none, sum_next}
-use borrow.Author.Rules.{rules}
+use Rattle.terms.proofs.Numbers.{numbers_length}
+use Rattle.commands.proofs.Arrays.{sum_numbers, sum_most}
 use Rattle.commands.proofs.sum_of_lengths.Goals as goal
 
-pub loop-i-init : goal.loop-i-init
-loop-i-init c = (search rules, search rules, sym (sum_none (length_at _) (numbers c.args.elements)))
+pub returns-clause-sum : goal.returns-clause-sum
+returns-clause-sum c =
+    let all : c.sum.result ≡ sum_by (λ (e : Entry). length_at c.args.t.now e.0) c.args.elements.now = search (rules, sums) in
+    all ∙ sum_numbers (length_at c.args.t.now) c.args.elements.now
 
-pub loop-i-preserved : goal.loop-i-preserved
-loop-i-preserved c =
-    let es = c.args.elements in
-    let four : length (numbers es) ≡ 4 = numbers_length es ∙ c.well_formed.1.1.0.1.0.1 in
-    let next = sum_next (length_at c.args.t.now) c.loop-i.i (numbers es) (omega arith) in
-    let last = c.length.ensures ∙ ap (length_at c.args.t.now) (sym (number_at_lem es c.loop-i.i)) in
-    (omega arith, omega arith, rw (next, c.loop-i.invariant.2, last) refl)
-
-pub returns : goal.returns
-returns c = let end : c.loop-i.i ≡ c.args.count = omega arith in
-    record { sum = rw end at c.loop-i.invariant.2; small = omega arith }
+pub returns-clause-small : goal.returns-clause-small
+unfolding word
+returns-clause-small c =
+    let es = c.args.elements.now in
+    let all : c.sum.result ≡ sum_by (λ (e : Entry). length_at c.args.t.now e.0) es = search (rules, sums) in
+    let most = sum_most (length_at c.args.t.now) 65535 (λ e. omega (arith, c.type_inv.t (row_width c.args.t.now * e + 6))) (numbers es) in
+    omega (arith, all, sum_numbers (length_at c.args.t.now) es, most, numbers_length es)

@@ -6,10 +6,10 @@ use borrow.Author.Tests.{ne_eqb}
 use Rattle.rules.specs.WellFormed.{count_of}
 use Rattle.entries_fit.proofs.count_of.Goals as goal
 
-pub returns-in-2 : goal.returns-in-2
+pub returns-then-kind-2 : goal.returns-then-kind-2
 unfolding count_of
-returns-in-2 c = ⊎_elim (λ q. rw q refl) (λ q. rw q refl) c.in-2.is
+returns-then-kind-2 c = ⊎_elim (λ q. rw q refl) (λ q. rw q.1 refl) c.if-kind-2.either
 
-pub returns-in_default : goal.returns-in_default
+pub returns-else-kind-2 : goal.returns-else-kind-2
 unfolding count_of
-returns-in_default c = grind (arith, ne_eqb)
+returns-else-kind-2 c = grind (arith, ne_eqb)

@@ -1,39 +1,45 @@
 -- `formed::key_is_held` meets its contract: when knower k is reached all below it hold the key as named.
+use Prim.Native.Nat.{◌≤◌}
 use native.Mathlib.Omega.{arith}
-use mathlib.Core.Path.{sym}
+use mathlib.Core.Path.{◌≡◌, refl, sym}
+use mathlib.Core.Bool.{Bool, true, false, not, beq}
 use borrow.Author.Count.{below_more}
+use Rattle.rules.specs.Choice.{agree}
+use Rattle.rules.specs.Table.{most}
 use Rattle.rules.specs.WellFormed.{held_as_named}
-use Rattle.rules.proofs.Logic.{found_false, found_true}
+use Rattle.rules.proofs.Logic.{never}
 use Rattle.rules.proofs.Words.{most_high}
 use Rattle.rules.proofs.Formed.{knower_from, knower_fails}
 use Rattle.formed.proofs.key_is_held.Goals as goal
 
-pub loop-k-init : goal.loop-k-init
-loop-k-init c = (omega arith, λ j l. absurd (omega arith))
+-- what the test says of the two that it compares
+differ : (a b : Bool) → not (beq b a) ≡ true → agree a b ≡ false
+differ true true h = never h refl
+differ true false h = refl
+differ false true h = refl
+differ false false h = never h refl
 
-pub is_named-requires : goal.is_named-requires
-is_named-requires c = c.in_mask-honest.ensures
+alike : (a b : Bool) → not (beq b a) ≡ false → agree a b ≡ true
+alike true true h = refl
+alike true false h = never refl h
+alike false true h = never refl h
+alike false false h = refl
 
-pub returns-then-not-held_as_named : goal.returns-then-not-held_as_named
+pub overflow_add-knowers : goal.overflow_add-knowers
+overflow_add-knowers c = omega (arith, c.most-knowers.ensures, most_high c.args.t.now)
+
+pub returns-then-is_named-holds : goal.returns-then-is_named-holds
 unfolding held_as_named
-returns-then-not-held_as_named c =
-    let low = rw c.most-last.ensures at c.loop-k-test.true in
+returns-then-is_named-holds c =
+    let low : c.loop-k.k ≤ most c.args.t.now = omega (arith, c.most-knowers.ensures) in
     sym (knower_fails _ _ c.loop-k.k low
-    (found_false (rw (c.is_named.ensures, c.mask-mask.ensures) at c.held_as_named.ensures)
-    c.if-not-held_as_named.true))
-
-pub overflow_add-k : goal.overflow_add-k
-overflow_add-k c =
-    omega (arith, c.most-last.ensures, most_high c.args.t.now)
+    (rw (c.holds.ensures, c.is_named.ensures, c.mask-mask.ensures) at (differ _ _ c.if-is_named-holds.true)))
 
 pub loop-k-preserved : goal.loop-k-preserved
 unfolding held_as_named
-loop-k-preserved c = (
-  omega arith,
-  below_more _ _ c.loop-k.invariant.1
-      (found_true (rw (c.is_named.ensures, c.mask-mask.ensures) at c.held_as_named.ensures)
-      c.if-not-held_as_named.false),
-)
+loop-k-preserved c =
+    below_more _ _ c.loop-k.invariant
+    (rw (c.holds.ensures, c.is_named.ensures, c.mask-mask.ensures) at (alike _ _ c.if-is_named-holds.false))
 
 pub returns : goal.returns
-returns c = sym (knower_from _ _ (λ j l. c.loop-k.invariant.1 j (omega (arith, c.most-last.ensures))))
+returns c = sym (knower_from _ _ (λ j l. c.loop-k.invariant j (omega (arith, c.most-knowers.ensures))))

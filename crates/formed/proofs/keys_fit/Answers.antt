@@ -22,13 +22,14 @@ public_is t p e = refl
 pub overflow_mul-p : goal.overflow_mul-p
 overflow_mul-p c = omega (arith, most_high c.args.t.now)
 
-pub returns-then-not-is_key_of : goal.returns-then-not-is_key_of
-unfolding keys_fit secret_key_of
-returns-then-not-is_key_of c = and_stops _ (c.is_key_of.ensures ∙ secret_is _ _ _) c.if-not-is_key_of.true
+pub overflow_mul-p-then-is_key_of : goal.overflow_mul-p-then-is_key_of
+overflow_mul-p-then-is_key_of c = omega (arith, most_high c.args.t.now)
 
-pub overflow_mul-p-2 : goal.overflow_mul-p-2
-overflow_mul-p-2 c = omega (arith, most_high c.args.t.now)
-
-pub returns : goal.returns
+pub returns-then-is_key_of : goal.returns-then-is_key_of
 unfolding keys_fit secret_key_of public_key_of
-returns c = and_goes (c.is_key_of.ensures ∙ secret_is _ _ _) c.if-not-is_key_of.false (c.is_key_of-2.ensures ∙ public_is _ _ _)
+returns-then-is_key_of c =
+    and_goes (c.is_key_of.ensures ∙ secret_is _ _ _) c.if-is_key_of.true (c.is_key_of-then-is_key_of.ensures ∙ public_is _ _ _)
+
+pub returns-else-is_key_of : goal.returns-else-is_key_of
+unfolding keys_fit secret_key_of
+returns-else-is_key_of c = c.if-is_key_of.false ∙ and_stops _ (c.is_key_of.ensures ∙ secret_is _ _ _) c.if-is_key_of.false

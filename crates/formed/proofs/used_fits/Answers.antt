@@ -1,22 +1,13 @@
 -- `formed::used_fits` meets its contract: the two tests are the rule's.
-use Prim.Native.Nat.{◌*◌, ◌≤◌, ◌<◌}
-use mathlib.Core.Path.{refl}
-use borrow.Author.Tests.{le-leb, lt-leb}
+use native.Mathlib.Omega.{arith}
+use Rattle.std.proofs.lemmas.Grind.{common_steps}
 use Rattle.rules.specs.WellFormed.{used_fits}
 use Rattle.formed.proofs.used_fits.Goals as goal
 
-pub returns-then-used-participants : goal.returns-then-used-participants
+pub returns-then-from : goal.returns-then-from
 unfolding used_fits
-returns-then-used-participants c = let few : c.used-used.result < 2 * c.participants.result = c.if-used-participants.true in
-    rw (← c.participants.ensures, ← c.used-used.ensures, lt-leb _ _ few) refl
+returns-then-from c = grind (arith, common_steps)
 
-pub returns : goal.returns
+pub returns-else-from : goal.returns-else-from
 unfolding used_fits
-returns c = let enough : 2 * c.participants.result ≤ c.used-used.result = c.if-used-participants.false in
-    rw (
-      ← c.participants.ensures,
-      ← c.used-used.ensures,
-      le-leb _ _ enough,
-      c.capacity.ensures,
-    )
-    refl
+returns-else-from c = grind (arith, common_steps)

@@ -1,8 +1,7 @@
 -- `handles::holds` meets its contract: the same test of the same word.
-use mathlib.Core.Path.{refl}
 use Rattle.rules.specs.Handles.{holds}
 use Rattle.handles.proofs.holds.Goals as goal
 
 pub returns : goal.returns
 unfolding holds
-returns c = rw (← c.handle-h.ensures) refl
+returns c = rw (← c.handle.ensures) c.ne.ensures

@@ -7,19 +7,17 @@ use Rattle.machine.proofs.perform.Goals as goal
 pub returns-then-is_set_up : goal.returns-then-is_set_up
 returns-then-is_set_up c =
     record {
-      answer = rw (known_set_up _ _ (sym c.if-is_set_up.true ∙ c.is_set_up.ensures _)) c.act.ensures.answer;
-      table = rw (known_set_up _ _ (sym c.if-is_set_up.true ∙ c.is_set_up.ensures _)) c.act.ensures.table;
+      answer = rw (known_set_up _ _ (sym c.if-is_set_up.true ∙ c.is_set_up.ensures)) c.act.ensures.answer;
+      table = rw (known_set_up _ _ (sym c.if-is_set_up.true ∙ c.is_set_up.ensures)) c.act.ensures.table;
     }
 
 pub returns-then-not-well_formed : goal.returns-then-not-well_formed
 unfolding said
 returns-then-not-well_formed c =
     record {
-      answer = let hs = c.args.handles in
-          rw (known_refused _ _ (sym c.well_formed-2.ensures ∙ c.if-not-well_formed.true) (sym c.if-is_set_up.false ∙ c.is_set_up.ensures hs))
+      answer = rw (known_refused _ _ (sym c.well_formed-2.ensures ∙ c.if-not-well_formed.true) (sym c.if-is_set_up.false ∙ c.is_set_up.ensures))
           refl;
-      table = let hs = c.args.handles in
-          rw (known_refused _ _ (sym c.well_formed-2.ensures ∙ c.if-not-well_formed.true) (sym c.if-is_set_up.false ∙ c.is_set_up.ensures hs))
+      table = rw (known_refused _ _ (sym c.well_formed-2.ensures ∙ c.if-not-well_formed.true) (sym c.if-is_set_up.false ∙ c.is_set_up.ensures))
           refl;
     }
 

@@ -5,10 +5,11 @@ use Rattle.rules.specs.Terms.{public_key_of}
 use Rattle.rules.specs.Steps.{is_for}
 use Rattle.messages.proofs.is_for.Goals as goal
 
-pub returns-then-kind-ne4 : goal.returns-then-kind-ne4
-unfolding is_for
-returns-then-kind-ne4 c = rw (← c.kind.ensures, ne_eqb _ 4 c.if-kind-ne4.true) refl
-
-pub returns : goal.returns
+pub returns-then-kind : goal.returns-then-kind
 unfolding is_for public_key_of
-returns c = rw (← c.kind.ensures, eq-eqb _ 4 c.if-kind-ne4.false, ← c.first.ensures) refl
+returns-then-kind c =
+    rw (← c.kind.ensures, eq-eqb _ 4 c.if-kind.true, ← c.first.ensures, c.from.ensures, c.from-then-kind.ensures) refl
+
+pub returns-else-kind : goal.returns-else-kind
+unfolding is_for
+returns-else-kind c = rw (← c.kind.ensures, ne_eqb _ 4 c.if-kind.false) refl

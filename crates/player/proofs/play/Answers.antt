@@ -16,7 +16,7 @@ use Rattle.player.proofs.play.Goals as goal
 pub returns-then-not-file_fits : goal.returns-then-not-file_fits
 unfolding said
 returns-then-not-file_fits c = let q = unplayed _ (sym c.file_fits.ensures ∙ c.if-not-file_fits.true) in
-    let bytes = c.shared_slice_known-1.given in
+    let bytes = c.type_inv.file in
     record { put = put_as q c.line.ensures; small = lines_within _ (λ i. omega (arith, bytes i)) }
 
 pub records-requires : goal.records-requires
@@ -26,5 +26,5 @@ pub returns : goal.returns
 returns c = let f = sym c.file_fits.ensures ∙ c.if-not-file_fits.false in
     let file = c.args.file.now in
     let q = ap (λ (t : Table). lines_from 1 (answers_to (items_of file) t)) zeros ∙ played_all file f in
-    let bytes = c.shared_slice_known-1.given in
+    let bytes = c.type_inv.file in
     record { put = put_as q c.records.ensures; small = lines_within file (λ i. omega (arith, bytes i)) }

@@ -34,7 +34,7 @@ pub pass_fours-at-requires : goal.pass_fours-at-requires
 pass_fours-at-requires c =
     let row = c.args.e.0 in
     let l : row < 65536 = omega arith in
-    (omega (arith, place_low _ _ row c.row_width-width.ensures l), omega (arith, c.larger.ensures.0))
+    (omega (arith, place_low _ _ row c.row_width-width.ensures l), omega (arith, c.max.ensures))
 
 pub loop-at-init : goal.loop-at-init
 loop-at-init c = c.pass_fours-at.ensures.passes _ _ _ (reached_first _ _ _ _ _ _ _ c.row_width-width.ensures)
@@ -47,7 +47,7 @@ overflow_add-at c =
 pub has_both_at-requires : goal.has_both_at-requires
 has_both_at-requires c =
     let fits = more_fits _ _ _ _ _ _ _ _ c.row_width-width.ensures c.loop-at.invariant _ (last_is _ _ _ c.used.ensures) c.loop-at-test.true in
-    (omega (arith, fits, c.larger.ensures.0), omega (arith, fits, c.larger.ensures.1))
+    (omega (arith, fits, c.max.ensures), omega (arith, fits, c.max.ensures))
 
 pub nonzero_div-result : goal.nonzero_div-result
 nonzero_div-result c = omega (arith, c.row_width-width.ensures)
@@ -65,7 +65,7 @@ returns-then-has_both_at c =
 pub pass_fours-at-requires-in-loop-at : goal.pass_fours-at-requires-in-loop-at
 pass_fours-at-requires-in-loop-at c =
     let fits = more_fits _ _ _ _ _ _ _ _ c.row_width-width.ensures c.loop-at.invariant _ (last_is _ _ _ c.used.ensures) c.loop-at-test.true in
-    (omega (arith, fits), omega (arith, c.larger.ensures.0))
+    (omega (arith, fits), omega (arith, c.max.ensures))
 
 pub loop-at-smaller : goal.loop-at-smaller
 loop-at-smaller c = omega (arith, c.pass_fours-at-in-loop-at.ensures.further, c.row_width-width.ensures)

@@ -1,34 +1,16 @@
 -- `session::read_body` meets its contract: the rule's two tests, in its order.
-use mathlib.Core.Path.{◌≡◌, refl}
-use Rattle.session.specs.Session.{four_handles, read_as, beside}
-use mathlib.Core.Bool.{false}
-use native.Mathlib.Omega.{arith}
-use lib.ListN.{get_or}
-use Rattle.rules.specs.Session.{body_lengths, is_within}
 use Rattle.rules.proofs.RoundTrip.{body_long, body_unfit}
+use Rattle.session.specs.Session.{read_as, handles_in, beside}
 use Rattle.session.proofs.read_body.Goals as goal
 
 pub returns-then-file-b : goal.returns-then-file-b
-unfolding read_as beside four_handles
-returns-then-file-b c =
-    record {
-      read = rw (body_long _ _ _ c.if-file-b.true) refl;
-      handles = rw (body_long _ _ _ c.if-file-b.true) refl;
-    }
+unfolding read_as handles_in beside
+returns-then-file-b c = let e = body_long _ _ _ (rw c.from.ensures at c.if-file-b.true) in record { read = rw e; handles = rw e }
 
-pub record_at-requires : goal.record_at-requires
-record_at-requires c = record { within = omega arith; length = rw (← c.byte_at.ensures, ← c.lengths_of-lengths.ensures, ← c.is_within.ensures) c.if-is_within.true }
-
-pub returns : goal.returns
-unfolding read_as beside four_handles
-returns c =
-    record {
-      read = let a = c.args in
-          let e : is_within (body_lengths (get_or a.file.now a.b 0)) a.l ≡ false =
-          rw (← c.byte_at.ensures, ← c.lengths_of-lengths.ensures, ← c.is_within.ensures) c.if-is_within.false in
-          rw (body_unfit a.file.now a.b a.l c.if-file-b.false e) refl;
-      handles = let a = c.args in
-          let e : is_within (body_lengths (get_or a.file.now a.b 0)) a.l ≡ false =
-          rw (← c.byte_at.ensures, ← c.lengths_of-lengths.ensures, ← c.is_within.ensures) c.if-is_within.false in
-          rw (body_unfit a.file.now a.b a.l c.if-file-b.false e) refl;
-    }
+pub returns-then-not-is_within : goal.returns-then-not-is_within
+unfolding read_as handles_in beside
+returns-then-not-is_within c =
+    let e =
+    body_unfit c.args.file.now c.args.b c.args.l (rw c.from.ensures at c.if-file-b.false)
+    (rw (← c.byte_at.ensures, ← c.lengths_of.ensures, ← c.is_within.ensures) c.if-not-is_within.true) in
+    record { read = rw e; handles = rw e }

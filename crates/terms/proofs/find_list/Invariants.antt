@@ -1,7 +1,7 @@
 -- `terms::find_list` meets its contract: what has the list's sure words is gone through upwards, and when e is passed none up to e is that
 -- list; inside, when place k is reached the first k elements are alike, so the first difference shuts the entry out, and no difference
 -- makes it the lowest.
-use Prim.Native.Nat.{ℕ, ◌-◌, ◌≤◌}
+use Prim.Native.Nat.{ℕ, ◌-◌}
 use mathlib.Core.Path.{◌≡◌}
 use mathlib.Core.Bool.{true}
 use lib.ListN.{take}
@@ -14,13 +14,10 @@ use Rattle.terms.proofs.Lists.{Alike}
 use Rattle.terms.proofs.find_list.Given as goal
 
 abbrev pub invariant-loop-k : goal.invariant-loop-k
-invariant-loop-k l = (l.k ≤ l.wanted) × Alike l.t l.e l.elements l.k
-
-abbrev pub decreases-loop-k : goal.decreases-loop-k
-decreases-loop-k l = l.wanted - l.k
+invariant-loop-k l = Alike l.t l.e.0 l.elements l.k
 
 abbrev pub invariant-scan : goal.invariant-scan
-invariant-scan l = (lowest (is_list_of l.t (take l.count (numbers l.elements))) l.e ≡ 0) × ((x : ℕ) → is_list_of l.t (take l.count (numbers l.elements)) x ≡ true → has_both l.t l.a l.v l.b l.w x ≡ true)
+invariant-scan l = (lowest (is_list_of l.t (take l.count (numbers l.elements))) l.e.0 ≡ 0) × ((x : ℕ) → is_list_of l.t (take l.count (numbers l.elements)) x ≡ true → has_both l.t l.sought.k l.sought.v l.sought.j l.sought.w x ≡ true)
 
 abbrev pub decreases-scan : goal.decreases-scan
-decreases-scan l = used l.t - l.e
+decreases-scan l = used l.t - l.e.0

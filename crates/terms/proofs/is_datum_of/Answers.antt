@@ -4,10 +4,10 @@ use borrow.Author.Tests.{eq-eqb, ne_eqb}
 use Rattle.rules.specs.Terms.{is_datum_of}
 use Rattle.terms.proofs.is_datum_of.Goals as goal
 
-pub returns-then-kind-ne1 : goal.returns-then-kind-ne1
+pub returns-then-kind : goal.returns-then-kind
 unfolding is_datum_of
-returns-then-kind-ne1 c = rw (← c.kind.ensures, ne_eqb _ 1 c.if-kind-ne1.true) refl
+returns-then-kind c = rw (← c.kind.ensures, eq-eqb _ 1 c.if-kind.true, ← c.first.ensures) refl
 
-pub returns : goal.returns
+pub returns-else-kind : goal.returns-else-kind
 unfolding is_datum_of
-returns c = rw (← c.kind.ensures, eq-eqb _ 1 c.if-kind-ne1.false, ← c.first.ensures) refl
+returns-else-kind c = rw (← c.kind.ensures, ne_eqb _ 1 c.if-kind.false) refl

@@ -9,7 +9,7 @@ pub returns-then-n-lt10 : goal.returns-then-n-lt10
 returns-then-n-lt10 t c =
     let n = c.args.n in
     let small : n < 10 = omega arith in
-    digit_put n small c.byte.ensures
+    digit_put n small c.last.ensures c.byte.ensures
 
 pub returns-then-n-lt100 : goal.returns-then-n-lt100
 returns-then-n-lt100 t c =
@@ -23,7 +23,7 @@ returns-then-n-lt1000 t c =
     let n = c.args.n in
     let low : 100 ≤ n = omega arith in
     let small : n / 100 < 10 = omega arith in
-    digits_put n low (digit_put (n / 100) small c.byte-after.ensures) c.two-then-n-lt1000.ensures
+    digits_put n low (digit_put (n / 100) small c.last-then-n-lt1000.ensures c.byte-after.ensures) c.two-then-n-lt1000.ensures
 
 pub returns-then-n-lt10000 : goal.returns-then-n-lt10000
 returns-then-n-lt10000 t c =

@@ -1,11 +1,7 @@
 -- `text::cut` meets its contract: after i turns the first i bytes of the word are written.
-use Prim.Native.Nat.{◌-◌, ◌≤◌}
-use lib.ListN.{length, take}
+use lib.ListN.{take}
 use Rattle.text.specs.Put.{Put}
 use Rattle.text.proofs.cut.Given as goal
 
-abbrev pub invariant-loop-i : goal.invariant-loop-i
-invariant-loop-i l = (l.i ≤ length l.w) × Put l.initial.out l.at (take l.i l.w) l.out l.end
-
-abbrev pub decreases-loop-i : goal.decreases-loop-i
-decreases-loop-i l = length l.w - l.i
+abbrev pub invariant-loop-b : goal.invariant-loop-b
+invariant-loop-b l = Put l.initial.out l.at (take l.b-index l.w) l.out l.end

@@ -1,8 +1,0 @@
--- `bench::output` meets its contract: a run of one number over and over is as long as it is said to be.
-use Prim.Native.Nat.{ℕ}
-use mathlib.Core.Path.{sym}
-use lib.ListN.{length-replicate}
-use Rattle.bench.proofs.output.Goals as goal
-
-pub returns : goal.returns
-returns c = sym (length-replicate {0} {A = ℕ} 677215 0)

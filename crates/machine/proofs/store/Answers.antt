@@ -1,8 +1,0 @@
--- `machine::store` meets its contract: it is performed under its name.
-use Rattle.rules.specs.Machine.{perform}
-use Rattle.rules.specs.Meaning.{asked}
-use Rattle.machine.proofs.store.Goals as goal
-
-pub returns : goal.returns
-unfolding asked perform
-returns c = record { answer = c.perform.ensures.answer; table = c.perform.ensures.table }

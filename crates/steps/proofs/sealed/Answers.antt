@@ -1,0 +1,9 @@
+-- `steps::sealed` meets its contract: its seven numbers are the rule's.
+use mathlib.Core.Path.{refl}
+use Rattle.rules.specs.Terms.{type_of, arguments_of, public_key_of, ciphertext_length, numbers_of}
+use Rattle.rows.specs.Row.{seven}
+use Rattle.steps.proofs.sealed.Goals as goal
+
+pub returns : goal.returns
+unfolding seven numbers_of type_of arguments_of public_key_of ciphertext_length
+returns c = refl
