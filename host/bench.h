@@ -45,8 +45,8 @@ extern "C" {
 #define BENCH_CAPACITY_MOST 512                                      /* entries of a table */
 #define BENCH_TABLE_NUMBERS(capacity) (16 + 16 * (size_t)(capacity)) /* numbers of a table of that capacity */
 #define BENCH_ANSWER_NUMBERS 4                                       /* numbers of an answer */
-#define BENCH_PLAY_STACK 17072                                       /* bytes of stack, as measured */
-#define BENCH_PERFORM_STACK 688
+#define BENCH_PLAY_STACK 16936                                       /* bytes of stack, as measured */
+#define BENCH_PERFORM_STACK 520
 
 /* An answer's number is the place of its word; its values follow, then zeros. */
 enum bench_word {
