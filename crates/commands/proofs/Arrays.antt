@@ -9,10 +9,10 @@ use mathlib.Core.Path.{◌≡◌, refl, sym, ap, ◌∙◌}
 use mathlib.Core.Bool.{Bool, true, false, ◌&&◌}
 use mathlib.Core.List.{List, [], ◌∷◌, ◌++◌, map}
 use lib.ListN.{length, get_or, set, take, replicate}
-use lib.Seq.{take-nil}
 use Rattle.rules.specs.Choice.{◌and◌, every, sum_of}
 use Rattle.rules.specs.declared.Entry.{Entry}
 use Rattle.rules.specs.declared.Handle.{Handle}
+use Rattle.terms.proofs.Numbers.{numbers_take}
 use Rattle.terms.specs.Elements.{numbers}
 use Rattle.rules.proofs.Logic.{and_left, and_right, both, never, fails, every_at, mem_take}
 use Rattle.beside.specs.Beside.{numbers_beside}
@@ -56,11 +56,6 @@ pub sum_most : (f : ℕ → ℕ) (m : ℕ) → ((x : ℕ) → f x ≤ m) → (xs
 unfolding sum_of
 sum_most f m h [] = omega arith
 sum_most f m h (x ∷ xs) = omega (arith, h x, sum_most f m h xs)
-
-numbers_take : (n : ℕ) (es : List Entry) → numbers (take n es) ≡ take n (numbers es)
-numbers_take n [] = ap numbers (take-nil {A = Entry} n) ∙ sym (take-nil {A = ℕ} n)
-numbers_take zero (e ∷ es) = refl
-numbers_take (suc n) (e ∷ es) = ap (λ (xs : List ℕ). e.0 ∷ xs) (numbers_take n es)
 
 -- the first n entries, where m is n in another type of the code
 pub numbers_first : (m n : ℕ) (es : List Entry) → m ≡ n → numbers (take m es) ≡ take n (numbers es)

@@ -13,7 +13,7 @@ use Rattle.rules.specs.Handles.{grant, grant_each}
 use Rattle.rules.specs.Steps.{sealed_in, plain_in, opened}
 use Rattle.rules.specs.declared.Entry.{Entry}
 use Rattle.terms.specs.Elements.{numbers}
-use Rattle.terms.proofs.Numbers.{numbers_length, number_at_or}
+use Rattle.terms.proofs.Numbers.{numbers_length, number_at_or, numbers_take}
 
 -- ---- one slice after another
 pub grant_append : (t : Table) (p : ℕ) (xs ys : List ℕ) → grant_each t p (xs ++ ys) ≡ grant_each (grant_each t p xs) p ys
@@ -39,11 +39,6 @@ grants_all t p es i h = let l : length (numbers es) ≤ i = rw (numbers_length e
     rw (take_all i (numbers es) l) refl
 
 -- ---- what is known of a list that was opened
-numbers_take : (n : ℕ) (es : List Entry) → numbers (take n es) ≡ take n (numbers es)
-numbers_take zero es = refl
-numbers_take (suc n) [] = refl
-numbers_take (suc n) (e ∷ es) = ap (λ (l : List ℕ). e.0 ∷ l) (numbers_take n es)
-
 -- so many elements as the list has, and three at most
 first_three : (n k a b c d : ℕ) → k ≡ min n 3 → take k (take 3 (a ∷ b ∷ c ∷ d ∷ [])) ≡ take 3 (take n (a ∷ b ∷ c ∷ d ∷ []))
 first_three zero k a b c d h = let is : k ≡ 0 = omega arith in rw is refl

@@ -1,8 +1,8 @@
--- The numbers of the entries that the code hands over as an array: how many, each of them, and one replaced. Assumes nothing.
+-- The numbers of the entries that the code hands over as an array: how many, each of them, one replaced, the first n. Assumes nothing.
 use Prim.Native.Nat.{ℕ, zero, suc}
 use mathlib.Core.Path.{◌≡◌, refl, ap}
 use mathlib.Core.List.{List, [], ◌∷◌}
-use lib.ListN.{length, get_or, set}
+use lib.ListN.{length, get_or, set, take}
 use Rattle.rules.specs.declared.Entry.{Entry}
 use Rattle.terms.specs.Elements.{numbers}
 
@@ -27,3 +27,8 @@ pub numbers_set : (es : List Entry) (i : ℕ) (e : Entry) → numbers (set es i 
 numbers_set [] i e = refl
 numbers_set (x ∷ es) zero e = refl
 numbers_set (x ∷ es) (suc i) e = ap (λ (l : List ℕ). x.0 ∷ l) (numbers_set es i e)
+
+pub numbers_take : (n : ℕ) (es : List Entry) → numbers (take n es) ≡ take n (numbers es)
+numbers_take zero es = refl
+numbers_take (suc n) [] = refl
+numbers_take (suc n) (e ∷ es) = ap (λ (l : List ℕ). e.0 ∷ l) (numbers_take n es)
