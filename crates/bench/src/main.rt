@@ -12,6 +12,20 @@ fn zeros<const N: usize>() -> [u8; N]
     [0; N]
 }
 
+// One byte more than a file may have, so that a longer one shows.
+fn input() -> [u8; 65537]
+    ensures { 65537 ≡ length result }
+{
+    zeros()
+}
+
+// As many bytes as the lines of any file can have.
+fn output() -> [u8; 677215]
+    ensures { 677215 ≡ length result }
+{
+    zeros()
+}
+
 // Fills the buffer from its start as far as the input goes, and says how far. Input that can't be read counts as ended there.
 // A loop, since `read_exact` doesn't say how far it came and `read_to_end` takes a heap.
 fn read_full(from: &mut impl Read, buf: &mut [u8]) -> usize
@@ -29,11 +43,9 @@ fn read_full(from: &mut impl Read, buf: &mut [u8]) -> usize
 
 // Lines that can't be written are told on standard error.
 fn main(rt: HostRuntime) -> io::Result<()> {
-    // One byte more than a file may have, so that a longer one shows.
-    let mut file = zeros::<65537>();
+    let mut file = input();
     let n = read_full(&mut rt.stdin(), &mut file);
-    // As many bytes as the lines of any file can have.
-    let mut out = zeros::<677215>();
+    let mut out = output();
     let end = bench_calls::bench_play(&file[..n], &mut out) as usize;
     rt.write_all(&out[..end])
 }

@@ -11,13 +11,13 @@ use Rattle.bench.proofs.main.Goals as goal
 pub slice_bounds-out-end : goal.slice_bounds-out-end
 unfolding most_bytes
 slice_bounds-out-end c =
-    let o : 677215 ≤ length c.zeros-out.result = omega (arith, c.zeros-out.ensures) in
+    let o : 677215 ≤ length c.output-out.result = omega (arith, c.output-out.ensures) in
     let f = always_fits _ _ _ c.bench_play-end.ensures.value c.bench_play-end.ensures.small o in
     omega (arith, f, o, c.bench_play-end.auto.out)
 
 pub slice_bounds-write_all-end : goal.slice_bounds-write_all-end
 unfolding most_bytes
 slice_bounds-write_all-end c =
-    let o : 677215 ≤ length c.zeros-out.result = omega (arith, c.zeros-out.ensures) in
+    let o : 677215 ≤ length c.output-out.result = omega (arith, c.output-out.ensures) in
     let f = always_fits _ _ _ c.bench_play-end.ensures.value c.bench_play-end.ensures.small o in
     sym (length-take-le _ _ (omega (arith, f, o, c.bench_play-end.auto.out)))
