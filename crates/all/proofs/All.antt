@@ -1,6 +1,8 @@
 -- Every public function has a contract that leaves no choice: the proof of each, in its own crate, passed on. Written by
 -- tools/all-unique from the sources. Assumes nothing.
 use Rattle.tight.specs.Tight.{Tight}
+use Rattle.rules.specs.contracts as rules
+use Rattle.rules.proofs.Unique as rules-unique
 use Rattle.rows.specs.contracts as rows
 use Rattle.rows.proofs.Unique as rows-unique
 use Rattle.handles.specs.contracts as handles
@@ -37,6 +39,9 @@ use Rattle.player.specs.contracts as player
 use Rattle.player.proofs.Unique as player-unique
 use Rattle.bench_calls.specs.contracts as bench_calls
 use Rattle.bench_calls.proofs.Unique as bench_calls-unique
+
+pub rules-KindTryFromU16-try_from : Tight rules.KindTryFromU16.try_from.ended (λ M 𝓤. rules.KindTryFromU16.try_from.clauses)
+rules-KindTryFromU16-try_from = rules-unique.KindTryFromU16-try_from
 
 pub rows-most : Tight rows.most.ended (λ M 𝓤. rows.most.clauses)
 rows-most = rows-unique.most

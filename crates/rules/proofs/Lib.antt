@@ -55,3 +55,4 @@ pub mod Small
 pub mod Bytes
 pub mod Promises
 pub mod RoundTrip
+pub mod Unique

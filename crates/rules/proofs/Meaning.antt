@@ -142,6 +142,35 @@ asked_back (Parseᶜ h) four = refl
 pub asked_injective : (a b : Command) → HasFour a → HasFour b → asked a ≡ asked b → a ≡ b
 asked_injective a b four fours q = sym (asked_back a four) ∙ ap unasked q ∙ asked_back b fours
 
+-- a command but for a list's handles, of which this holds whatever their number
+abbrev pub bare : Command → Command
+bare (SetUpᶜ n m c) = SetUpᶜ n m c
+bare (Startᶜ u v) = Startᶜ u v
+bare (Deliverᶜ s r h) = Deliverᶜ s r h
+bare (Storeᶜ d) = Storeᶜ d
+bare Nonceᶜ = Nonceᶜ
+bare (Listᶜ k hs) = Listᶜ k []
+bare (Projectᶜ h i) = Projectᶜ h i
+bare (Encryptᶜ k l) = Encryptᶜ k l
+bare (Decryptᶜ k c) = Decryptᶜ k c
+bare (Parseᶜ h) = Parseᶜ h
+
+bare_back : (c : Command) → bare (unasked (asked c)) ≡ bare c
+unfolding asked
+bare_back (SetUpᶜ n m c) = refl
+bare_back (Startᶜ u v) = refl
+bare_back (Deliverᶜ s r h) = refl
+bare_back (Storeᶜ d) = refl
+bare_back Nonceᶜ = refl
+bare_back (Listᶜ k hs) = refl
+bare_back (Projectᶜ h i) = refl
+bare_back (Encryptᶜ k l) = refl
+bare_back (Decryptᶜ k c) = refl
+bare_back (Parseᶜ h) = refl
+
+pub bare_injective : (a b : Command) → asked a ≡ asked b → bare a ≡ bare b
+bare_injective a b q = sym (bare_back a) ∙ ap (λ (r : Record). bare (unasked r)) q ∙ bare_back b
+
 -- of a list, the handles are asked for too, whatever their number
 beside_of : Record → ℕ → ℕ
 beside_of (SetUp n m c) i = 0

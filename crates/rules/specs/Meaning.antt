@@ -14,7 +14,7 @@ use Rattle.rules.specs.declared.Reply.TheVariants.{Ready, Sent, Accepted, Droppe
 use Rattle.rules.specs.declared.Command.{Command}
 use Rattle.rules.specs.declared.Command.TheVariants.{SetUp as SetUpᶜ, Start as Startᶜ, Deliver as Deliverᶜ, Store as Storeᶜ, Nonce as Nonceᶜ, List as Listᶜ, Project as Projectᶜ, Encrypt as Encryptᶜ, Decrypt as Decryptᶜ, Parse as Parseᶜ}
 
--- T3: the number of a type
+-- T5: the number of a type
 abbrev pub number_of : Kind → ℕ
 number_of Data = data_type
 number_of Nonceᵏ = nonce_type

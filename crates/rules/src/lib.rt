@@ -11,7 +11,7 @@ pub struct Entry(pub u16);
 #[derive(Clone, Copy, PartialEq, Eq)]
 pub struct Handle(pub u16);
 
-// The types of a term, in the order of their numbers (rule T3). A run that isn't well formed may have other numbers there.
+// The types of a term, in the order of their numbers (rule T5). A run that isn't well formed may have other numbers there.
 #[derive(Clone, Copy, PartialEq, Eq)]
 pub enum Kind {
     Data = 1,
